@@ -10,15 +10,7 @@ use Rattle.hb_boxlock.specs.declared.locks.BoxLock.{BoxLock}
 use Rattle.hb_boxlock.specs.Laws.{AloneHasItsPoints, ReleasedMayBeHad, ReleasingKeepsThemShared, SharedKeepsNone, TakingKeepsThemShared}
 use Rattle.hb_boxlock.specs.Locking.{AreSharedWhereTheyMeet, Excludes, HaveAttributes, LockTable, MayHaveLock, lock_at}
 use Rattle.hb_boxlock.proofs.Places.{after_insert, after_remove}
-
-both : (s t : Bool) → ¬ (IsTrue (not (s && t))) → IsTrue s × IsTrue t
-both true true apart = (refl, refl)
-both true false apart = absurd (apart refl)
-both false t apart = absurd (apart refl)
-
--- locks that meet and don't exclude each other are shared
-both_shared : (lock held : BoxLock) → ¬ (Excludes lock held) → Meets lock.area held.area → IsTrue lock.shared × IsTrue held.shared
-both_shared lock held apart meets = both lock.shared held.shared (λ alone. apart (record { meets = meets; alone = alone }))
+use Rattle.hb_boxlock.proofs.Facts.LockedBoxes.{both_shared}
 
 -- what an actor has after an insert, and after a removal
 own_lock : (table : LockTable) (actor one : ℕ) (lock x : BoxLock) → one ≡ actor → lock_at (map.insert table actor lock) one ≡ Some x → lock ≡ x

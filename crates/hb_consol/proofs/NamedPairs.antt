@@ -9,9 +9,6 @@ use Rattle.hb_consol.specs.ConsolidatorRows.{names_child, one_on, pair_among}
 use Rattle.hb_consol.specs.Laws.{PairsAreNamed}
 use Rattle.hb_frag.specs.Leaves.{leaves}
 
-abbrev IdPlace : ℕ × ℕ → ℕ × ℕ → Type 0
-IdPlace a b = a ≡ b
-
 -- what was to be shown, of a list of leaves
 record IsAmong (parent : LivePage) (rest : List Leaf) (from gone place : ℕ) : Type 0 where
   named : IsTrue (names_child parent gone)
@@ -24,7 +21,7 @@ module _ (parent : LivePage) where
       → one_on pair ≡ Some (gone, place) → IsAmong parent (leaf ∷ rest) from gone place
   behind leaf rest from gone place None later is = absurd (let no : ⊥ = cc in no)
   behind leaf rest from gone place (Some (other, at)) later is =
-      let same : IdPlace (other, at + 1) (gone, place) = cc in
+      let same : ◌≡◌ {A = ℕ × ℕ} (other, at + 1) (gone, place) = cc in
       let of_name : other ≡ gone = ap (λ (p : ℕ × ℕ). p.0) same in
       let of_place : at + 1 ≡ place = ap (λ (p : ℕ × ℕ). p.1) same in
       let next : suc at ≡ place = omega (arith, of_place) in
@@ -36,7 +33,7 @@ module _ (parent : LivePage) where
   at_sibling : (page : ℕ) (rest : List Leaf) (from gone place : ℕ) → ((other at : ℕ) → pair_among parent (from - 1) rest ≡ Some (other, at) → IsAmong parent rest (from - 1) other at)
       → (first named : Bool) → (from == 0) ≡ first → names_child parent page ≡ named → cond (first && named) (Some (page, 0)) (one_on (pair_among parent (from - 1) rest)) ≡ Some (gone, place) → IsAmong parent (Sibling page ∷ rest) from gone place
   at_sibling page rest from gone place later true true at_first has is =
-      let same : IdPlace (page, 0) (gone, place) = cc in
+      let same : ◌≡◌ {A = ℕ × ℕ} (page, 0) (gone, place) = cc in
       let of_name : page ≡ gone = ap (λ (p : ℕ × ℕ). p.0) same in
       let of_place : 0 ≡ place = ap (λ (p : ℕ × ℕ). p.1) same in
       subst (λ (n : ℕ). IsAmong parent (Sibling page ∷ rest) from gone n) of_place (subst (λ (n : ℕ). IsAmong parent (Sibling page ∷ rest) from n 0) of_name

@@ -1,5 +1,5 @@
 -- A scan of two lists of leaves, one behind the other.
-use Rattle.std.proofs.Common.{◌≡◌, inl, inr, ℕ, zero, suc, ◌+◌, ◌-◌, ◌<◌, ◌==◌, ◌&&◌, Bool, true, false, cond, List, [], ◌∷◌, ◌++◌, length, IsTrue, ◌↔◌, Option, Some, None, refl, sym, ap, ◌∙◌, arith, eq-eqb}
+use Rattle.std.proofs.Common.{◌≡◌, inl, inr, ℕ, zero, suc, ◌+◌, ◌-◌, ◌==◌, ◌&&◌, Bool, true, false, cond, List, [], ◌∷◌, ◌++◌, length, IsTrue, ◌↔◌, Option, Some, None, refl, sym, ap, ◌∙◌, arith, eq-eqb}
 use Rattle.std.specs.List.{Contains, list_any}
 use Rattle.std.proofs.lemmas.Bool.{cases_Bool, or_left, or_right}
 use Rattle.std.proofs.lemmas.List.{length-append}
@@ -9,7 +9,7 @@ use Rattle.hb_frag.specs.declared.leaves.Leaf.{Leaf}
 use Rattle.hb_frag.specs.declared.leaves.Leaf.TheVariants.{Records, Child, Sibling}
 use Rattle.hb_frag.specs.declared.pages.LivePage.{LivePage}
 use Rattle.hb_consol.specs.ConsolidatorRows.{names_child, one_on, pair_among}
-use Rattle.hb_consol.specs.Doing.{IsScanned, counts_behind, found_behind}
+use Rattle.hb_consol.specs.Doing.{IsScanned, found_behind}
 use Rattle.hb_consol.specs.declared.scanning.Scanned.{Scanned}
 use Rattle.hb_consol.specs.declared.scanning.Scanned.TheVariants.{Pair, Passed}
 
@@ -93,18 +93,6 @@ module _ (parent : LivePage) where
       let m = then.1 in
       let n = scan.1 in
       (all ∙ ap (moved (length xs)) later, omega (arith, both, m, n))
-
-  -- so the places are few where the leaves are
-  pub counts_few : (from other : ℕ) (xs ys : List Leaf) (count : ℕ) (rest : Scanned) → length (xs ++ ys) < 4294967296 → IsScanned parent from xs (Passed count) → IsScanned parent other ys rest → counts_behind count rest < 4294967296
-  counts_few from other xs ys count (Pair gone place) few scan then = let both = length-append xs ys in let low = then.1 in let n = scan.1 in omega (arith, both, low, n, few)
-  counts_few from other xs ys count (Passed more) few scan then = let both = length-append xs ys in let m = then.1 in let n = scan.1 in omega (arith, both, m, n, few)
-
--- ---- one leaf
-
-pub other_leaf : (parent : LivePage) (from : ℕ) (leaf : Leaf) → ((page : ℕ) → leaf ≡ Sibling page → (from == 0) && names_child parent page ≡ false) → IsScanned parent from (leaf ∷ []) (Passed 1)
-other_leaf parent from (Records records) fails = (refl, refl)
-other_leaf parent from (Child page) fails = (refl, refl)
-other_leaf parent from (Sibling page) fails = (ap (λ b. cond b (Some (page, 0)) None) (fails page refl), refl)
 
 -- ---- the pages that a parent names
 

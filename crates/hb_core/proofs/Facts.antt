@@ -11,7 +11,6 @@ pub mod RunSteps
 pub mod BegunCores
 pub mod RunLines
 pub mod CountsKept
-pub mod BetweenRuns
 pub mod NoDamage
 pub mod StillThere
 pub mod NextLines

@@ -1,6 +1,5 @@
 -- What a search has found while it walks is exact, and so is its reply.
 pub mod SortedRecords
-pub mod PutInOrder
 pub mod Gathered
 pub mod LeafRecords
 pub mod SearchRow

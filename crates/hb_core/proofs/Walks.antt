@@ -2,7 +2,6 @@
 pub mod MergesKept
 pub mod OnePlace
 pub mod WalksKept
-pub mod Volumes
 pub mod LaterWanted
 pub mod NoCircle
 pub mod SomebodyFree

@@ -1,7 +1,6 @@
 -- Which page a step asks for, and what it tests of that page before it latches it.
-use Rattle.std.specs.Prelude.{◌≡◌, ◌≢◌, ℕ, Bool, true, false, List, slice_get, Option, Some, None, IfSome, IsSomeAnd}
+use Rattle.std.specs.Prelude.{◌≡◌, ◌≢◌, ℕ, List, slice_get, Option, Some, None, IfSome, IsSomeAnd}
 use Rattle.std.specs.Option.{option_and_then, option_map}
-use Rattle.hb_frag.specs.declared.leaves.Leaf.{Leaf}
 use Rattle.hb_frag.specs.declared.leaves.Leaf.TheVariants.{Records, Child, Sibling}
 use Rattle.hb_frag.specs.declared.pages.LivePage.{LivePage}
 use Rattle.hb_frag.specs.declared.pages.Page.{Page}
@@ -15,6 +14,8 @@ use Rattle.hb_activity.specs.Walks.{walk_point, walk_held}
 use Rattle.hb_activity.specs.Wanting.{wanted_of}
 use Rattle.hb_core.specs.Machines.{Machine, live_here}
 pub use Rattle.hb_core.specs.declared.asking.AskedBox.{AskedBox}
+use Rattle.hb_core.specs.declared.asking.BoxTest.{BoxTest}
+use Rattle.hb_core.specs.declared.asking.BoxTest.TheVariants.{Exactly, Around}
 pub use Rattle.hb_view.specs.Naming.{first_child_box}
 use Rattle.hb_frag.specs.Leaves.{Placed, leaf_at, leaves_of, siblings_of, first_named}
 use Rattle.hb_latch.specs.Tables.{IsGrantable, IsLeastInTheWay}
@@ -22,6 +23,7 @@ use Rattle.hb_space.specs.Boxes.{Area, Within, whole_area}
 use Rattle.hb_store.specs.States.{StoreState}
 use Rattle.hb_view.specs.declared.leaves.LeafView.{LeafView}
 use Rattle.hb_view.specs.declared.leaves.LeafView.TheVariants as views
+use Rattle.hb_view.specs.Views.{leaf_view}
 
 -- The page into which the next step of an activity looks to tell which latch it wants: the one that a walk holds, the
 -- page to keep where a merge is tried, or the parent.
@@ -51,20 +53,21 @@ IsInTheWay m actor by = IsSomeAnd (wanted_by m actor) (λ wanted. IsLeastInTheWa
 abbrev pub HasWayFree : Machine → ℕ → Type 0
 HasWayFree m actor = IfSome (wanted_by m actor) (λ wanted. IsGrantable m.latches actor wanted.page wanted.mode)
 
--- the page that a leaf names: a sibling has the leaf's box, a child has it within its own
-abbrev pub box_by_leaf : Placed → Option AskedBox
-box_by_leaf placed = by placed.leaf placed.area
-  where
-    by : Leaf → Area → Option AskedBox
-    by (Records records) area = None
-    by (Child page) area = Some (record { area = area; exact = false })
-    by (Sibling page) area = Some (record { area = area; exact = true })
+-- a page of this very box is asked for, or one whose box has it within
+abbrev pub this_box : Area → AskedBox
+this_box area = record { area = area; test = Exactly }
 
--- so by a leaf that was seen without its records, and its box
+abbrev pub around_box : Area → AskedBox
+around_box area = record { area = area; test = Around }
+
+-- the page that a leaf names, which was seen without its records: a sibling has the leaf's box, a child has it within its own
 abbrev pub box_by_view : LeafView → Area → Option AskedBox
 box_by_view views.Records area = None
-box_by_view (views.Child page) area = Some (record { area = area; exact = false })
-box_by_view (views.Sibling page) area = Some (record { area = area; exact = true })
+box_by_view (views.Child page) area = Some (around_box area)
+box_by_view (views.Sibling page) area = Some (this_box area)
+
+abbrev pub box_by_leaf : Placed → Option AskedBox
+box_by_leaf placed = box_by_view (leaf_view placed.leaf) placed.area
 
 -- the page that a page's leaf at a point names
 abbrev pub box_at : Option LivePage → Option (List ℕ) → Option AskedBox
@@ -76,14 +79,14 @@ box_of_place page place = option_and_then (λ page. option_and_then box_by_leaf 
 
 -- a child that a page names, and a page to which one gave a part of its box
 abbrev pub box_of_child : Option LivePage → ℕ → Option AskedBox
-box_of_child page name = option_map (λ area. record { area = area; exact = false }) (option_and_then (λ page. first_child_box name (leaves_of page.frag page.area)) page)
+box_of_child page name = option_map around_box (option_and_then (λ page. first_child_box name (leaves_of page.frag page.area)) page)
 
 abbrev pub box_of_sibling : Option LivePage → ℕ → Option AskedBox
-box_of_sibling page name = option_map (λ area. record { area = area; exact = true }) (option_and_then (λ page. first_named name (siblings_of page)) page)
+box_of_sibling page name = option_map this_box (option_and_then (λ page. first_named name (siblings_of page)) page)
 
 -- the box that the root is to have
 abbrev pub whole_box : ℕ → AskedBox
-whole_box k = record { area = whole_area k; exact = true }
+whole_box k = this_box (whole_area k)
 
 -- the box that the wanted page is to have: of the root the whole space
 abbrev pub asked_box : Activity → StoreState → Option AskedBox
@@ -102,11 +105,11 @@ asked_box other st = in_walk (walk_held other)
     in_walk (Some held) = box_at (live_here st held) (walk_point other)
 
 abbrev pub HasAskedBox : AskedBox → Area → Type 0
-HasAskedBox asked area = by asked.exact
+HasAskedBox asked area = by asked.test
   where
-    by : Bool → Type 0
-    by true = area ≡ asked.area
-    by false = Within asked.area area
+    by : BoxTest → Type 0
+    by Exactly = area ≡ asked.area
+    by Around = Within asked.area area
 
 -- why a page isn't the one that was asked for, by the first test that it fails: it is free, of another level, of another box
 abbrev pub IsNotAsked : Wanted → AskedBox → Page → Why → Type 0

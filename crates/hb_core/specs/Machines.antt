@@ -1,5 +1,5 @@
 -- The state of the step machine: all that a step looks at or changes, as data.
-use Rattle.std.specs.Prelude.{ℕ, ◌==◌, ◌+◌, nat_lt, if◌then◌else◌, List, [], ◌∷◌, length, Option, Some, None}
+use Rattle.std.specs.Prelude.{ℕ, ◌==◌, ◌+◌, nat_lt, if◌then◌else◌, List, length, Option, Some, None}
 use Rattle.hb_frag.specs.declared.pages.LivePage.{LivePage}
 use Rattle.hb_frag.specs.declared.pages.Page.{Page}
 use Rattle.hb_frag.specs.declared.pages.Page.TheVariants.{Live, Free}
@@ -76,11 +76,6 @@ sight m = record { meta = m.store.meta; page_at = live_here m.store; next = next
 -- all activities with another one for an actor
 abbrev pub with_activity : ℕ → Activity → (ℕ → Activity) → ℕ → Activity
 with_activity actor next all other = if other == actor then next else all other
-
--- the list of what is there
-abbrev pub if_some : {A : Type 0} → Option A → List A
-if_some None = []
-if_some (Some x) = x ∷ []
 
 -- a machine with another store, files and value of the clock
 abbrev pub with_disk : StoreState → Option Files → ℕ → Machine → Machine

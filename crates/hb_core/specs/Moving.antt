@@ -90,10 +90,6 @@ abbrev pub joins_order : Option ℕ → Activity → Fate → Option ℕ
 joins_order line (at.SessionAwait number reply place) fates.TakesEffect = line
 joins_order line then fate = None
 
-abbrev pub pushed : Option ℕ → List ℕ
-pushed None = []
-pushed (Some number) = number ∷ []
-
 abbrev pub said : Option ℕ → Fate → Outcome
 said (Some number) (fates.Answers reply) = outcomes.Answered number reply
 said line fate = outcomes.Moved

@@ -8,12 +8,12 @@ use Rattle.hb_activity.specs.declared.activities.Activity.{Activity}
 use Rattle.hb_activity.specs.declared.jobs.Job.{Job}
 use Rattle.hb_core.specs.declared.outcomes.Outcome.{Outcome}
 use Rattle.hb_core.specs.declared.outcomes.Outcome.TheVariants as outcomes
-use Rattle.std.specs.Option.{option_and_then}
+use Rattle.std.specs.Option.{option_and_then, option_to_list}
 use Rattle.hb_activity.specs.Deeds.{Deed, Answers, Drops, GoesOn, Says}
 use Rattle.hb_activity.specs.Holding.{held_of}
 use Rattle.hb_activity.specs.Queue.{AddsJobs, LeavesBy}
 use Rattle.hb_activity.specs.Walks.{walk_held}
-use Rattle.hb_core.specs.Machines.{Files, Machine, if_some, live_here, with_activity}
+use Rattle.hb_core.specs.Machines.{Files, Machine, live_here, with_activity}
 use Rattle.hb_latch.specs.Tables.{LatchTable, mode_at}
 use Rattle.hb_log_codec.specs.Groups.{group_bytes}
 use Rattle.hb_store.specs.Calls.{Commits, IsAllowedHere, with_op}
@@ -87,7 +87,7 @@ pub record Performs (m : Machine) (fetched : StoreState) (actor : ℕ) (deed : D
   pub activity : (other : ℕ) → new.activity other ≡ with_activity actor deed.next m.activity other
   pub latches : Relatches actor (latches_held new.store deed.next) m.latches new.latches
   pub jobs : ChangesQueue deed m.jobs new.jobs
-  pub order : new.order ≡ m.order ++ if_some deed.joins
+  pub order : new.order ≡ m.order ++ option_to_list deed.joins
   pub stop : new.stop ≡ m.stop
   pub store : MayDo deed.op (length m.order) fetched new.store
   pub files : new.files ≡ files_after deed.op m.files

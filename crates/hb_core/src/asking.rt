@@ -22,11 +22,20 @@ use hb_space::{Actor, Area, Point};
 use hb_store::Why;
 use hb_view::PageView;
 
-/// The box of a page that is asked for: exactly this one, or one that has it within.
+/// How the box of a page is compared with the one that is asked for.
+#[derive(Clone, Copy, Debug)]
+pub(crate) enum BoxTest {
+    /// It is that very box.
+    Exactly,
+    /// It has that box within it.
+    Around,
+}
+
+/// The box of a page that is asked for: this one, or one that has it within.
 #[derive(Debug, Drop)]
 pub(crate) struct AskedBox {
     pub(crate) area: Area,
-    pub(crate) exact: bool,
+    pub(crate) test: BoxTest,
 }
 
 impl AskedBox {
@@ -35,10 +44,9 @@ impl AskedBox {
         requires { length self.now.area.lo ≡ length area.now.lo }
         ensures { IsTrue result ↔ HasAskedBox self.now area.now }
     {
-        if self.exact {
-            *area == self.area
-        } else {
-            self.area.within(area)
+        match self.test {
+            BoxTest::Exactly => *area == self.area,
+            BoxTest::Around => self.area.within(area),
         }
     }
 }
@@ -139,7 +147,7 @@ fn whole_box(meta: &Meta) -> AskedBox
 {
     AskedBox {
         area: Area::whole(meta.k),
-        exact: true,
+        test: BoxTest::Exactly,
     }
 }
 

@@ -7,7 +7,7 @@ ghost use Rattle.hb_core.specs.Asking.{box_by_view, box_of_child, box_of_place, 
 ghost use Rattle.hb_core.specs.CoreSeen.{core_seen};
 ghost use Rattle.hb_core.specs.Machines.{live_here};
 
-use crate::asking::AskedBox;
+use crate::asking::{AskedBox, BoxTest};
 use crate::state::Core;
 use hb_disk::Device;
 use hb_space::Area;
@@ -20,7 +20,10 @@ impl<D: Device> Core<D> {
     {
         let view = self.cut_page(id)?;
         let area = view.child_area(child)?;
-        Some(AskedBox { area, exact: false })
+        Some(AskedBox {
+            area,
+            test: BoxTest::Around,
+        })
     }
 
     /// The box of the leaf at this place from the left, in the page of this number.
@@ -38,7 +41,10 @@ impl<D: Device> Core<D> {
     {
         let view = self.cut_page(id)?;
         let area = view.sibling_area(gone)?;
-        Some(AskedBox { area, exact: true })
+        Some(AskedBox {
+            area,
+            test: BoxTest::Exactly,
+        })
     }
 
     /// The page of the number, where it is in memory and in use. Every cut of it cuts its box.
@@ -57,7 +63,13 @@ pub(crate) fn box_by_leaf(leaf: LeafView, area: Area) -> Option<AskedBox>
 {
     match leaf {
         LeafView::Records => None,
-        LeafView::Child(_) => Some(AskedBox { area, exact: false }),
-        LeafView::Sibling(_) => Some(AskedBox { area, exact: true }),
+        LeafView::Child(_) => Some(AskedBox {
+            area,
+            test: BoxTest::Around,
+        }),
+        LeafView::Sibling(_) => Some(AskedBox {
+            area,
+            test: BoxTest::Exactly,
+        }),
     }
 }

@@ -19,7 +19,8 @@ ghost use Rattle.hb_core.specs.Counts.{counted_by};
 ghost use Rattle.hb_core.specs.GivingUp.{gives_up, reply_for};
 ghost use Rattle.hb_core.specs.KeptFits.{class_for};
 ghost use Rattle.hb_core.specs.Machines.{live_here};
-ghost use Rattle.hb_core.specs.Moving.{AreApart, DoesDeed, KeepsFilesBy, KeepsStaying, MayCommit, MayHave, MayStand, Queues, StandsFree, StandsNow, StandsAs, joins_order, number_of, placed, placed_at, pushed, said, with_counts, with_jobs, with_latches, with_order, with_order_of_use, with_store};
+ghost use Rattle.std.specs.Option.{option_to_list};
+ghost use Rattle.hb_core.specs.Moving.{AreApart, DoesDeed, KeepsFilesBy, KeepsStaying, MayCommit, MayHave, MayStand, Queues, StandsFree, StandsNow, StandsAs, joins_order, number_of, placed, placed_at, said, with_counts, with_jobs, with_latches, with_order, with_order_of_use, with_store};
 ghost use Rattle.hb_core.specs.Performing.{MayDo, Relatches, latches_held, mode_among};
 ghost use Rattle.hb_core.specs.Pinning.{CanMovePins, CanPin, CanUnpin};
 ghost use Rattle.hb_core.specs.Using.{pages_of, pin_each, unpin_each, use_done};
@@ -141,7 +142,7 @@ impl<D: Device> Core<D> {
     /// The line of the number takes effect, where there is one.
     fn join(&mut self, line: Option<u32>)
         requires room { IsSome line → length (core_seen self.old).order < length (core_seen self.old).lines }
-        ensures { ChangesBy (with_order ((core_seen self.old).order ++ pushed line)) self.old self.new }
+        ensures { ChangesBy (with_order ((core_seen self.old).order ++ option_to_list line)) self.old self.new }
     {
         if let Some(line) = line {
             self.order.push(line).unwrap();

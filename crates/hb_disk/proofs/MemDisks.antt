@@ -1,6 +1,5 @@
 -- What a disk in memory answers, from what its history did.
-use Rattle.std.proofs.Common.{◌≡◌, ◌↔◌, inl, inr, ℕ, ◌≤◌, Bool, List, Result, Ok, Err, IsTrue, IsErr, IfErr, OnOk, OnErr, refl, sym, subst, arith}
-use Rattle.std.proofs.lemmas.Bool.{cases_lt}
+use Rattle.std.proofs.Common.{◌≡◌, ◌↔◌, inl, inr, ℕ, ◌≤◌, Bool, List, Result, Ok, Err, IsTrue, IsErr, IfErr, OnOk, OnErr, refl, sym, subst}
 use Rattle.hb_outside.specs.Streams.{Rose}
 use Rattle.hb_outside.specs.Calls.{Counts}
 use Rattle.hb_outside.specs.Memory.{next_count}
@@ -12,6 +11,7 @@ use Rattle.hb_disk.specs.MemDisk.{bytes_of, IsListed, CalledExactly, FailsFor, H
 use Rattle.hb_disk.specs.declared.event.Refused.{Refused}
 use Rattle.hb_disk.specs.declared.event.Refused.TheVariants.{Listed, Over, NoMemory}
 use Rattle.hb_disk.specs.declared.mem_disk.MemDisk.{MemDisk}
+use Rattle.hb_outside.proofs.Facts.CountLaws.{Rose-next_count}
 
 -- two results are both a success, or both a failure
 abbrev pub Alike : {T E F : Type 0} → Result T E → Result T F → Type 0
@@ -54,13 +54,10 @@ told_syncs (Ok v) (Err f) old new alike syncs = absurd alike
 told_syncs (Err e) (Ok w) old new alike syncs = absurd alike
 told_syncs (Err e) (Err f) old new alike syncs = record { same = syncs.same; durable = tt; crash = syncs.crash; left_open = syncs.left_open; ticks = told_ticks (Err e) (Err f) old new alike syncs.ticks; faults = WriteFaults-as old new (λ e. refl) (λ e. refl) syncs.faults }
 
-rose_next : (count : ℕ) → Rose count (next_count count)
-rose_next count = elim (cases_lt count last_value) [ inl before ↦ inl (omega arith) | inr at_end ↦ inr (omega arith) ]
-
 -- the count of faults after a call, by its history's answer
 pub counts_after : {T : Type 0} (done : Result T Refused) (before after : ℕ) (P : Type 0) → OnOk done ((after ≡ before) × P) → OnErr done (after ≡ next_count before) → before ≤ after → Counts (IsErr done) before after
 counts_after (Ok v) before after P good bad later = record { cause = λ failed. cc; no_fault = λ _. good.0; later = later }
-counts_after (Err e) before after P good bad later = record { cause = λ failed. subst (λ n. Rose before n) (sym bad) (rose_next before); no_fault = λ not. absurd (not refl); later = later }
+counts_after (Err e) before after P good bad later = record { cause = λ failed. subst (λ n. Rose before n) (sym bad) (Rose-next_count before (next_count before) refl); no_fault = λ not. absurd (not refl); later = later }
 
 -- why a call failed, from what its history says
 blame_of : (old new : MemDisk) (listed : Bool) (Tried : Type 0) (e : Refused) → (IsTrue listed ↔ IsListed old) → Refuses Tried (HasSameRecord old new) listed old.history.clock e
@@ -107,9 +104,3 @@ told_on_ok (Ok v) (Ok w) P alike h = h
 told_on_ok (Ok v) (Err f) P alike h = tt
 told_on_ok (Err e) (Ok w) P alike h = absurd alike
 told_on_ok (Err e) (Err f) P alike h = tt
-
-pub told_on_err : {T E F : Type 0} (done : Result T E) (r : Result T F) (P : Type 0) → Alike done r → OnErr done P → OnErr r P
-told_on_err (Ok v) (Ok w) P alike h = tt
-told_on_err (Ok v) (Err f) P alike h = absurd alike
-told_on_err (Err e) (Ok w) P alike h = tt
-told_on_err (Err e) (Err f) P alike h = h

@@ -4,14 +4,12 @@ use Rattle.std.specs.List.{flat_map}
 use Rattle.std.specs.Prelude.{IsErr, OnErr}
 use Rattle.std.specs.Result.{is_err}
 use Rattle.std.proofs.lemmas.Bool.{false≢true}
-use Rattle.std.proofs.lemmas.List.{length-map}
 use Rattle.hb_disk.specs.Model.{DiskModel}
 use Rattle.hb_outside.specs.Calls.{Puts, PutsOn, SinkModel}
 use Rattle.hb_outside.specs.Streams.{Rose, Appends, AppendsFront}
 use Rattle.hb_outside.proofs.Facts.PutLaws.{has_put_more}
 use Rattle.hb_set.specs.declared.scripts.Answered.{Answered}
 use Rattle.hb_store.specs.declared.stops.StopWhy.{StopWhy}
-use Rattle.hb_store.specs.States.{StoreState}
 use Rattle.hb_text.specs.Output.{answer_text, left_text, order_text}
 use Rattle.hb_wal.specs.Log.{mark_of}
 use Rattle.hb_core.specs.declared.endings.End.{End}
@@ -20,6 +18,7 @@ use Rattle.hb_core.specs.Machines.{Machine, settled_count}
 use Rattle.hb_core.specs.Runs.{left_numbers}
 use Rattle.hb_core.specs.Showing.{RunningCore, ShowsMachine}
 use Rattle.hb_drive.specs.Driving.{EndsWith, IsEndOf, LeavesEnd, run_text}
+use Rattle.hb_core.proofs.Facts.LaterPages.{same_settled}
 
 -- what follows the replies
 abbrev rest_text : List ℕ → Bool → List ℕ → ℕ → List ℕ
@@ -36,11 +35,6 @@ rest_is m left order stopped settled left_is stop order_is count =
     ∙ ap (λ (b : Bool). rest_text (left_numbers m) b order settled) stop
     ∙ ap (λ (l : List ℕ). rest_text (left_numbers m) (is_some m.stop) l settled) order_is
     ∙ ap (λ (n : ℕ). rest_text (left_numbers m) (is_some m.stop) (numbers m) n) count
-
-settled_same : (d : DiskModel) (c : RunningCore) (m : Machine) → ShowsMachine d c m → mark_of c.store.log.groups (length c.order) ≡ settled_count m
-settled_same d c m shows =
-    ap (λ (st : StoreState). mark_of st.log.groups (length c.order)) (sym shows.store)
-    ∙ ap (λ (n : ℕ). mark_of m.store.log.groups n) (ap (λ (l : List ℕ). length l) (sym shows.order) ∙ length-map m.order (λ e. e.line.number))
 
 -- what is known of a put that failed, and of one that didn't
 failed_put : {T E : Type 0} (result : Result T E) (a b : SinkModel) (text : List ℕ) → Puts text result a b → is_err result ≡ true → AppendsFront a.written b.written text × Rose a.faults b.faults
@@ -85,7 +79,7 @@ module _ {T E : Type 0} (d : DiskModel) (c : RunningCore) (m : Machine) (shows :
     (left_is : left ≡ left_numbers m) (more : PutRest early last mid after c left failed answers end) where
   same_rest : rest_text left more.stopped more.order more.settled ≡ rest_text (left_numbers m) (is_some m.stop) (numbers m) (settled_count m)
   same_rest = rest_is m left more.order more.stopped more.settled left_is
-      (more.stop_is ∙ ap (λ (o : Option StopWhy). is_some o) (sym shows.stop)) (more.order_is ∙ sym shows.order) (more.settled_is ∙ settled_same d c m shows)
+      (more.stop_is ∙ ap (λ (o : Option StopWhy). is_some o) (sym shows.stop)) (more.order_is ∙ sym shows.order) (more.settled_is ∙ sym (same_settled d c m shows))
 
   all_put : (before : SinkModel) → Puts (flat_map answer_text answers) early before mid → Puts (run_text answers m) last before after
   all_put before put =

@@ -1,5 +1,5 @@
 -- What stays in memory, and how often it is pinned, once a page was fetched, pinned or changed.
-use Rattle.std.proofs.Common.{◌≡◌, ℕ, ◌<◌, ◌≤◌, ◌==◌, nat_lt, Bool, true, false, cond, List, [], ◌∷◌, ◌++◌, length, map, All, Option, Some, None, IsTrue, IsSome, refl, sym, ap, subst, ◌∙◌, arith}
+use Rattle.std.proofs.Common.{◌≡◌, ℕ, ◌<◌, ◌==◌, nat_lt, Bool, true, false, cond, List, [], ◌∷◌, ◌++◌, length, map, All, Option, Some, None, IsTrue, IsSome, refl, sym, ap, subst, ◌∙◌, arith}
 use Rattle.std.specs.Prelude.{IsSomeAnd}
 use Rattle.std.specs.List.{find}
 use Rattle.std.specs.Option.{is_some, option_map, option_or, option_to_list}
@@ -21,9 +21,6 @@ use Rattle.hb_file_tests.specs.Driven.{AllStay, IsPinned}
 
 abbrev Stays : Use → Type 0
 Stays u = IsTrue (must_stay u)
-
-abbrev HasFew : Use → Type 0
-HasFew u = u.pins ≤ 1
 
 -- the frame of a page that came in clean
 abbrev new_use : ℕ → Use

@@ -63,9 +63,6 @@ new_few uses none = subst FewPins (sym none) (All-nil (λ (u : Use). u.pins ≤ 
 pub same_driven : (st new : StoreState) (uses after : List Use) → new ≡ st → after ≡ uses → IsDrivenHere st uses → IsDrivenHere new after
 same_driven st new uses after same order driven = subst (λ (s : StoreState). IsDrivenHere s after) (sym same) (subst (λ (l : List Use). IsDrivenHere st l) (sym order) driven)
 
-pub fetched_runs : (id : ℕ) (old new : StoreState) → Fetched id old new → old.stopped ≡ false → new.stopped ≡ false
-fetched_runs id old new fetched runs = ap (λ (s : StoreState). s.stopped) fetched.rest ∙ runs
-
 fetched_driven : (id : ℕ) (st new : StoreState) (uses after : List Use) → Fetched id st new → AllStay after → IsDrivenHere st uses → IsDrivenHere new after
 fetched_driven id st new uses after fetched stay driven = record {
   running = ap (λ (s : StoreState). s.stopped) fetched.rest ∙ driven.running;

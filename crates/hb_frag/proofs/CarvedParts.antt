@@ -6,14 +6,14 @@ use Rattle.std.proofs.lemmas.Bool.{cases_lt}
 use Rattle.std.proofs.lemmas.List.{ext_get_or, get_or-set_same, get_or-set_other}
 use Rattle.std.proofs.lemmas.List.Elements.{All-append, All-cons, All-contains, Contains-append_left, Contains-append_right}
 use Rattle.hb_space.specs.Boxes.{Area, IsArea, Holds, Meets, Within, Cuts, common_area, holds, side_below, side_from}
-use Rattle.hb_space.proofs.Facts.Boxes.{IsArea-common_area, Holds-common_area, Within-common_area, Holds-side_below, Holds-side_from, same_corners}
+use Rattle.hb_space.proofs.Facts.Boxes.{IsArea-common_area, Holds-common_area, Within-common_area, Holds-side_below, Holds-side_from, same_corners, test-from_Holds}
 use Rattle.hb_space.proofs.Facts.Lists.{length-zip_by}
 use Rattle.hb_frag.specs.declared.leaves.Leaf.TheVariants.{Child}
 use Rattle.hb_frag.specs.Trees.{Tree, Tip, Cut}
 use Rattle.hb_frag.specs.Leaves.{Placed, IsWellCut, first_at, leaves_of, weight_of}
 use Rattle.hb_frag.specs.Carving.{carve_below, carve_above, carve_from, carved}
 use Rattle.hb_frag.specs.CarvingLaws.{IsCarvedLeaf, Carves}
-use Rattle.hb_frag.proofs.Facts.Sides.{held_test, failed_test, IsArea-side_below, IsArea-side_from, same-side_from, is_below, isnt_below}
+use Rattle.hb_frag.proofs.Facts.Sides.{failed_test, IsArea-side_below, IsArea-side_from, same-side_from, is_below, isnt_below}
 use Rattle.hb_frag.proofs.Facts.Points.{way_ends}
 use Rattle.hb_frag.proofs.Facts.Tiles.{first_tells}
 use Rattle.hb_frag.proofs.Facts.CarvedKinds.{alone_or_cut, cuts_weigh_two}
@@ -203,7 +203,7 @@ module _ (leaf area : Area) (outer inner : ℕ) (h : IsArea leaf) (k : IsArea ar
           | inl e ↦
               let P : Placed → Type 0 = λ l. Holds l.area p in
               let there = (Holds-common_area leaf area p h k (sym same)).0 (subst P e w.1.held) in
-              rw (held_test area p k there.1) (ap (λ l. l.leaf) e)
+              rw (test-from_Holds area p k there.1) (ap (λ l. l.leaf) e)
           | inr e ↦ rw (failed_test area p (λ there. e.1 p w.1.held there)) e.0
         ],
       )

@@ -3,6 +3,7 @@ pub mod CarvedPages
 pub mod NamesListed
 pub mod Parts
 pub mod RisingRecords
+pub mod SortedRecords
 pub mod Points
 pub mod SayingTheSame
 pub mod Sides

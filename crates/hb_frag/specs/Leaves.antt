@@ -1,6 +1,6 @@
 -- The leaves of a page and their boxes, as lists from the left.
 use Rattle.std.specs.Prelude.{ℕ, ◌==◌, max, not, if◌then◌else◌, List, [], ◌∷◌, ◌++◌, length, map, filter, sum, All, Option, Some, None}
-use Rattle.std.specs.List.{list_any}
+use Rattle.std.specs.List.{list_any, find, fold, flat_map}
 use Rattle.hb_space.specs.Boxes.{Area, Holds, Meets, Within, Cuts, holds, side_below, side_from}
 use Rattle.hb_space.specs.declared.records.Record.{Record}
 use Rattle.hb_frag.specs.declared.leaves.Leaf.{Leaf}
@@ -36,8 +36,7 @@ IsWellCut (Cut axis value left right) area = Cuts area axis value × IsWellCut l
 
 -- the first of these leaves whose box holds the point
 abbrev pub first_at : List ℕ → List Placed → Option Placed
-first_at p [] = None
-first_at p (placed ∷ rest) = if holds placed.area p then Some placed else first_at p rest
+first_at p leaves = find (λ placed. holds placed.area p) leaves
 
 -- the leaf at a point, with its box
 abbrev pub leaf_at : LivePage → List ℕ → Option Placed
@@ -80,23 +79,28 @@ abbrev pub with_name : List ℕ → ℕ → List ℕ
 with_name seen name = if list_any (λ other. other == name) seen then seen else seen ++ name ∷ []
 
 abbrev pub with_names : List ℕ → List ℕ → List ℕ
-with_names seen [] = seen
-with_names seen (name ∷ rest) = with_names (with_name seen name) rest
+with_names seen names = fold with_name seen names
 
 -- the boxes of the sibling leaves, with the page that each names
 abbrev pub siblings : List Placed → List (ℕ × Area)
-siblings [] = []
-siblings (placed ∷ rest) = sibling_of placed.leaf placed.area ++ siblings rest
+siblings leaves = flat_map (λ placed. sibling_of placed.leaf placed.area) leaves
   where
     sibling_of : Leaf → Area → List (ℕ × Area)
-    sibling_of (Records records) area = []
-    sibling_of (Child page) area = []
     sibling_of (Sibling page) area = (page, area) ∷ []
+    sibling_of other area = []
 
 abbrev pub siblings_of : LivePage → List (ℕ × Area)
 siblings_of page = siblings (leaves_of page.frag page.area)
 
--- the first of these boxes that has the name
+-- the boxes of the child leaves, with the page that each names
+abbrev pub children : List Placed → List (ℕ × Area)
+children leaves = flat_map (λ placed. child_of placed.leaf placed.area) leaves
+  where
+    child_of : Leaf → Area → List (ℕ × Area)
+    child_of (Child page) area = (page, area) ∷ []
+    child_of other area = []
+
+-- the first of such boxes that has the name
 abbrev pub first_named : ℕ → List (ℕ × Area) → Option Area
 first_named name [] = None
 first_named name (s ∷ rest) = if s.0 == name then Some s.1 else first_named name rest

@@ -1,5 +1,5 @@
 -- The rules that a live page keeps by itself. The number of each is the one that a refusal names.
-use Rattle.std.specs.Prelude.{◌≡◌, ℕ, ◌<◌, ◌≤◌, ◌==◌, if◌then◌else◌, length, All, AllPairs}
+use Rattle.std.specs.Prelude.{◌≡◌, ◌≢◌, ℕ, ◌<◌, ◌≤◌, ◌==◌, if◌then◌else◌, List, length, All, AllPairs}
 use Rattle.std.specs.declared.cmp.Ordering.TheVariants.{Less}
 use Rattle.hb_space.specs.Points.{point_cmp}
 use Rattle.hb_space.specs.Boxes.{Holds}
@@ -37,9 +37,17 @@ pub record IsFilledRight (page : LivePage) (dcap icap : ℕ) : Type 0 where
   pub light : weight_of page.frag ≤ capacity_of page.level dcap icap
   pub own : ¬ (IsSiblingTip page.frag)
 
+-- the point of a record
+abbrev pub point_of : Record → List ℕ
+point_of rec = rec.key
+
 -- one record's point comes before another's
 abbrev pub Precedes : Record → Record → Type 0
 Precedes r s = point_cmp r.key s.key ≡ Less
+
+-- a record of another point than that one
+abbrev pub Differ : Record → Record → Type 0
+Differ r s = s.key ≢ r.key
 
 -- a leaf's records lie in its box, and their points rise
 pub record IsInOrder (placed : Placed) : Type 0 where

@@ -5,15 +5,16 @@ use Rattle.std.specs.Cmp.{ranked}
 use Rattle.std.specs.Ordering.{nat_cmp, ordering_then}
 use Rattle.std.specs.declared.cmp.Ordering.TheVariants.{Less, Equal, Greater}
 use Rattle.std.proofs.lemmas.Bool.Decides.{Decides-eqb}
-use Rattle.std.proofs.lemmas.Bool.{and_parts, false≢true, cases_lt, not-true}
+use Rattle.std.proofs.lemmas.Bool.{and_parts, false≢true, cases_lt, not-true, false_from_ne_true}
 use Rattle.std.proofs.Common.{inl, inr}
 use Rattle.hb_latch.specs.declared.modes.Mode.{Mode}
 use Rattle.hb_latch.specs.declared.entries.Held.{Held}
 use Rattle.hb_latch.specs.Modes.{goes_beside}
 use Rattle.hb_latch.specs.Tables.{latch_cmp, mode_at, IsGrantable, KeepsFrom, IsLeastInTheWay}
 use Rattle.hb_latch.specs.Entries.{key_of, conflicts}
-use Rattle.hb_latch.proofs.KeyPlaces.{KeysRise, rise_at, place_found}
-use Rattle.hb_latch.proofs.TableViews.{table_of, get_is, get_at}
+use Rattle.hb_latch.proofs.TableViews.{table_of, mode_of, KeysRise}
+use Rattle.hb_lemmas.proofs.SortedEntries.{get_at, get_is, place_found, rise_at}
+use Rattle.hb_latch.proofs.Facts.KeyOrder.{latch_order, exact_keys}
 
 -- the first that passes: it passes, and none before it does
 pub record IsFirstAt (p : Held → Bool) (hs : List Held) (h : Held) : Type 0 where
@@ -66,14 +67,10 @@ against_so actor page mode h is =
       apart = not-true (goes_beside mode h.mode) more.1;
     }
 
-false_so : (b : Bool) → ¬ (b ≡ true) → b ≡ false
-false_so true n = absurd (n refl)
-false_so false n = refl
-
 conflicts_so : (actor page : ℕ) (mode : Mode) (h : Held) → IsAgainst actor page mode h → conflicts actor page mode h ≡ true
 conflicts_so actor page mode h a =
     ap (λ b. b && (not (h.actor == actor) && not (goes_beside mode h.mode))) ((Decides-eqb h.page page).1 a.page_is)
-    ∙ ap (λ b. not b && not (goes_beside mode h.mode)) (false_so (h.actor == actor) (λ same. a.another ((Decides-eqb h.actor actor).0 same)))
+    ∙ ap (λ b. not b && not (goes_beside mode h.mode)) (false_from_ne_true (h.actor == actor) (λ same. a.another ((Decides-eqb h.actor actor).0 same)))
     ∙ ap not a.apart
 
 -- the actors don't fall along the latches
@@ -87,14 +84,14 @@ first_rises k l less =
 
 actors_rise : (hs : List Held) (i j : ℕ) (d : Held) → KeysRise hs → i ≤ j → j < length hs → (get_or hs i d).actor ≤ (get_or hs j d).actor
 actors_rise hs i j d rise le in_range = elim (cases_lt i j) [
-  | inl lt ↦ first_rises (key_of (get_or hs i d)) (key_of (get_or hs j d)) (rise_at hs rise i j d lt in_range)
+  | inl lt ↦ first_rises (key_of (get_or hs i d)) (key_of (get_or hs j d)) (rise_at latch_order key_of mode_of hs rise i j d lt in_range)
   | inr ge ↦ let same : i ≡ j = omega arith in omega (arith, ap (λ (k : ℕ). (get_or hs k d).actor) same)
 ]
 
 -- a latch at a place, as the table tells it
 get_place : (hs : List Held) (page : ℕ) (h : Held) (i : ℕ) → KeysRise hs → i < length hs → ((d : Held) → get_or hs i d ≡ h) → h.page ≡ page → mode_at (table_of hs) h.actor page ≡ Some h.mode
 get_place hs page h i rise in_range is page_is =
-    get_at hs (h.actor, page) i h rise (record { in_range = in_range; same_key = λ d. ap key_of (is d) ∙ ap (λ (p : ℕ). (h.actor, p)) page_is })
+    get_at latch_order key_of mode_of hs (h.actor, page) i h rise (record { in_range = in_range; same_key = λ d. ap key_of (is d) ∙ ap (λ (p : ℕ). (h.actor, p)) page_is })
     ∙ ap (λ (x : Held). Some x.mode) (is h)
 
 -- who keeps the actor from the page has a latch in the list that conflicts
@@ -103,14 +100,14 @@ against_at hs actor page mode other d rise keeps =
     elim (mode_at (table_of hs) other page) as (λ o. mode_at (table_of hs) other page ≡ o → IsSomeAnd o (λ held. ¬ (IsTrue (goes_beside mode held))) → (i : ℕ) × (i < length hs) × (key_of (get_or hs i d) ≡ (other, page)) × (conflicts actor page mode (get_or hs i d) ≡ true)) [
       | None ↦ λ is no. absurd no
       | Some held ↦ λ is apart.
-          let at = place_found hs (other, page) held d (sym (get_is hs (other, page) rise) ∙ is) in (
+          let at = place_found latch_order key_of mode_of exact_keys hs (other, page) held d (sym (get_is latch_order key_of mode_of hs (other, page) rise) ∙ is) in (
             at.0,
             at.1,
             at.2,
             conflicts_so actor page mode (get_or hs at.0 d) (record {
               page_is = ap (λ (k : ℕ × ℕ). k.1) at.2;
               another = λ same. keeps.another (sym (ap (λ (k : ℕ × ℕ). k.0) at.2) ∙ same);
-              apart = ap (goes_beside mode) at.3 ∙ false_so _ apart;
+              apart = ap (goes_beside mode) at.3 ∙ false_from_ne_true _ apart;
             }),
           )
     ] refl keeps.conflict
@@ -192,8 +189,3 @@ named_nobody hs actor page mode rise grantable =
       | None ↦ λ found. refl
       | Some h ↦ λ found. absurd (refused hs actor page mode h rise found grantable)
     ] refl
-
--- who isn't someone is no one
-pub no_one : (r o : Option ℕ) → r ≡ o → ((x : ℕ) → r ≡ Some x → ⊥) → None ≡ o
-no_one None o is none = is
-no_one (Some x) o is none = absurd (none x refl)

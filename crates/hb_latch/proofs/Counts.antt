@@ -9,9 +9,10 @@ use Rattle.std.proofs.lemmas.Bool.{and_parts}
 use Rattle.std.proofs.lemmas.List.Sums.{sum_by-cons}
 use Rattle.hb_latch.specs.declared.modes.Mode.{Mode}
 use Rattle.hb_latch.specs.Tables.{LatchTable, latch_cmp, mode_at, latches_of}
-use Rattle.hb_latch.proofs.Facts.KeyOrder.{latch_order, exact_keys, without, entries-remove}
+use Rattle.hb_latch.proofs.Facts.KeyOrder.{latch_order, exact_keys}
 use Rattle.hb_lemmas.proofs.Orderings.{equal_so, less_so}
 use Rattle.hb_lemmas.proofs.Booleans.{T_true}
+use Rattle.hb_lemmas.proofs.SortedEntries.{without, entries-remove}
 
 abbrev Entry : Type 0
 Entry = (ℕ × ℕ) × Mode
@@ -59,26 +60,26 @@ share_again actor key mode old (e ∷ es) sorted some =
     ] refl some
 
 -- what isn't found isn't left out
-without_none : (key : ℕ × ℕ) (es : List Entry) → find latch_cmp key es ≡ None → without key es ≡ es
+without_none : (key : ℕ × ℕ) (es : List Entry) → find latch_cmp key es ≡ None → without latch_order key es ≡ es
 without_none key [] none = refl
 without_none key (e ∷ es) none =
-    elim (eq_by_cmp latch_cmp key e.0) as (λ b. cond b (Some e.1) (find latch_cmp key es) ≡ None → cond (not b) (e ∷ without key es) (without key es) ≡ e ∷ es) [
+    elim (eq_by_cmp latch_cmp key e.0) as (λ b. cond b (Some e.1) (find latch_cmp key es) ≡ None → cond (not b) (e ∷ without latch_order key es) (without latch_order key es) ≡ e ∷ es) [
       | true ↦ λ none. cc
       | false ↦ λ none. ap (λ (rest : List Entry). e ∷ rest) (without_none key es none)
     ] none
 
 -- an entry that is left out counted once, for its actor
-share_less : (actor : ℕ) (key : ℕ × ℕ) (old : Mode) (es : List Entry) → is_sorted latch_cmp es ≡ true → find latch_cmp key es ≡ Some old → share actor (without key es) + cond (key.0 == actor) 1 0 ≡ share actor es
+share_less : (actor : ℕ) (key : ℕ × ℕ) (old : Mode) (es : List Entry) → is_sorted latch_cmp es ≡ true → find latch_cmp key es ≡ Some old → share actor (without latch_order key es) + cond (key.0 == actor) 1 0 ≡ share actor es
 share_less actor key old [] sorted some = cc
 share_less actor key old (e ∷ es) sorted some =
     let parts = and_parts (below_all latch_cmp e.0 es) (is_sorted latch_cmp es) sorted in
-    elim (eq_by_cmp latch_cmp key e.0) as (λ b. eq_by_cmp latch_cmp key e.0 ≡ b → cond b (Some e.1) (find latch_cmp key es) ≡ Some old → share actor (cond (not b) (e ∷ without key es) (without key es)) + cond (key.0 == actor) 1 0 ≡ share actor (e ∷ es)) [
+    elim (eq_by_cmp latch_cmp key e.0) as (λ b. eq_by_cmp latch_cmp key e.0 ≡ b → cond b (Some e.1) (find latch_cmp key es) ≡ Some old → share actor (cond (not b) (e ∷ without latch_order key es) (without latch_order key es)) + cond (key.0 == actor) 1 0 ≡ share actor (e ∷ es)) [
       | true ↦ λ tied some.
           let same : key ≡ e.0 = exact_keys key e.0 (equal_so _ tied) in
           let left = without_none key es (find_below key es (subst (λ (k : ℕ × ℕ). below_all latch_cmp k es ≡ true) (sym same) parts.0)) in
           let first : cond {A = ℕ} (key.0 == actor) 1 0 ≡ cond {A = ℕ} (e.0.0 == actor) 1 0 = ap (λ (k : ℕ × ℕ). cond (k.0 == actor) 1 0) same in
           omega (arith, share_cons actor e es, first, ap (share actor) left)
-      | false ↦ λ other some. omega (arith, share_cons actor e (without key es), share_cons actor e es, share_less actor key old es parts.1 some)
+      | false ↦ λ other some. omega (arith, share_cons actor e (without latch_order key es), share_cons actor e es, share_less actor key old es parts.1 some)
     ] refl some
 
 sorted : (table : LatchTable) → is_sorted latch_cmp (map.entries table) ≡ true
@@ -103,6 +104,6 @@ count_released table actor page other there =
     elim (mode_at table actor page) as (λ o. mode_at table actor page ≡ o → IsSome o → latches_of (map.remove table (actor, page)) other + cond (actor == other) 1 0 ≡ latches_of table other) [
       | None ↦ λ is there. cc
       | Some old ↦ λ is there.
-          ap (λ (es : List Entry). share other es + cond (actor == other) 1 0) (entries-remove table (actor, page))
+          ap (λ (es : List Entry). share other es + cond (actor == other) 1 0) (entries-remove latch_order exact_keys table (actor, page))
           ∙ share_less other (actor, page) old (map.entries table) (sorted table) (sym (map.get-entries table (actor, page)) ∙ is)
     ] refl there

@@ -7,9 +7,13 @@ use Rattle.std.proofs.lemmas.List.Elements.{All-append, All-take, All-drop, All-
 use Rattle.std.proofs.lemmas.List.Sums.{sum_by-insert, sum_by-remove, sum_by-set}
 use Rattle.hb_latch.specs.declared.entries.Held.{Held}
 use Rattle.hb_space.specs.Actors.{IsActor}
-use Rattle.hb_latch.specs.Entries.{key_of, IsKept, IsHeldAt, IsGapOf}
+use Rattle.hb_latch.specs.Entries.{key_of, IsKept}
 use Rattle.hb_latch.proofs.Shares.{share}
-use Rattle.hb_latch.proofs.TableViews.{rise_insert, rise_set, rise_remove}
+use Rattle.hb_lemmas.proofs.SortedEntries.{rise_insert, rise_set, rise_remove}
+use Rattle.hb_latch.proofs.Facts.KeyOrder.{latch_order}
+use Rattle.hb_latch.proofs.TableViews.{mode_of}
+use Rattle.hb_lemmas.specs.Places.{IsGapFor, IsPlaceOf}
+use Rattle.hb_latch.specs.Tables.{latch_cmp}
 
 actors_insert : (hs : List Held) (n : Held) (i : ℕ) → All (λ h. IsActor h.actor) hs → IsActor n.actor → All (λ h. IsActor h.actor) (insert hs i n)
 actors_insert hs n i all is =
@@ -38,26 +42,26 @@ few_set hs n i d lt same few a =
     let one : cond {A = ℕ} ((get_or hs i d).actor == a) 1 0 ≡ cond {A = ℕ} (n.actor == a) 1 0 = ap (λ (x : ℕ). cond (x == a) 1 0) same in
     omega (arith, few a, one, sum)
 
-pub kept_insert : (hs : List Held) (n : Held) (i : ℕ) → IsKept hs → IsGapOf hs (key_of n) i → IsActor n.actor → share n.actor hs < 3 → IsKept (insert hs i n)
+pub kept_insert : (hs : List Held) (n : Held) (i : ℕ) → IsKept hs → IsGapFor latch_cmp key_of hs (key_of n) i → IsActor n.actor → share n.actor hs < 3 → IsKept (insert hs i n)
 kept_insert hs n i kept gap is room = record {
-  rising = rise_insert hs n i kept.rising gap;
+  rising = rise_insert latch_order key_of mode_of hs n i kept.rising gap;
   actors = actors_insert hs n i kept.actors is;
   few = few_insert hs n i kept.few room;
 }
 
-pub kept_set : (hs : List Held) (n : Held) (i : ℕ) → IsKept hs → IsHeldAt hs (key_of n) i → IsKept (set hs i n)
+pub kept_set : (hs : List Held) (n : Held) (i : ℕ) → IsKept hs → IsPlaceOf key_of hs (key_of n) i → IsKept (set hs i n)
 kept_set hs n i kept at =
     let same : (get_or hs i n).actor ≡ n.actor = ap (λ (k : ℕ × ℕ). k.0) (at.same_key n) in
     let P : Held → Type 0 = λ h. IsActor h.actor in
     record {
-      rising = rise_set hs n i kept.rising at;
+      rising = rise_set latch_order key_of mode_of hs n i kept.rising at;
       actors = All-set P hs i n (subst IsActor same (kept.actors i n at.in_range)) kept.actors;
       few = few_set hs n i n at.in_range same kept.few;
     }
 
-pub kept_remove : (hs : List Held) (p : ℕ × ℕ) (i : ℕ) (d : Held) → IsKept hs → IsHeldAt hs p i → IsKept (remove hs i)
+pub kept_remove : (hs : List Held) (p : ℕ × ℕ) (i : ℕ) (d : Held) → IsKept hs → IsPlaceOf key_of hs p i → IsKept (remove hs i)
 kept_remove hs p i d kept at = record {
-  rising = rise_remove hs p i kept.rising at;
+  rising = rise_remove latch_order key_of mode_of hs p i kept.rising at;
   actors = actors_remove hs i kept.actors;
   few = few_remove hs i d at.in_range kept.few;
 }

@@ -1,5 +1,4 @@
 pub mod Facts
-pub mod KeyPlaces
 pub mod TableViews
 pub mod Retained
 pub mod Conflicts

@@ -11,9 +11,9 @@ use Rattle.hb_latch.specs.Tables.{LatchTable, latch_cmp, mode_at}
 use Rattle.hb_space.specs.Actors.{IsActor}
 use Rattle.hb_latch.specs.Entries.{IsKept, key_of, table_entries}
 use Rattle.hb_latch.proofs.Facts.KeyOrder.{exact_keys, latch_order}
-use Rattle.hb_latch.proofs.KeyPlaces.{KeysRise}
 use Rattle.hb_latch.proofs.Shares.{share}
-use Rattle.hb_latch.proofs.TableViews.{get_is, table_of}
+use Rattle.hb_latch.proofs.TableViews.{table_of, mode_of, KeysRise}
+use Rattle.hb_lemmas.proofs.SortedEntries.{get_is}
 
 -- the latches of the actors that pass a test
 module _ (p : ℕ → Bool) where
@@ -30,10 +30,10 @@ module _ (p : ℕ → Bool) where
   pub table_left : (hs : List Held) → KeysRise hs → table_of (filter (λ h. p h.actor) hs) ≡ map.retain_keys (table_of hs) (λ k. p k.0)
   table_left hs rise = map.same_map latch_order exact_keys _ _ (λ q.
       let alike : (x : ℕ × ℕ) → latch_cmp q x ≡ Equal → p x.0 ≡ p q.0 = λ x tied. ap (λ k. p k.0) (sym (exact_keys q x tied)) in
-      get_is (filter (λ h. p h.actor) hs) q (rise_left hs rise)
+      get_is latch_order key_of mode_of (filter (λ h. p h.actor) hs) q (rise_left hs rise)
       ∙ ap (map.find latch_cmp q) (entries_left hs)
       ∙ find-where_key latch_cmp (λ k. p k.0) q alike (table_entries hs)
-      ∙ ap (λ o. cond (p q.0) o None) (sym (get_is hs q rise))
+      ∙ ap (λ o. cond (p q.0) o None) (sym (get_is latch_order key_of mode_of hs q rise))
       ∙ sym (map.get-retain_keys (table_of hs) (λ k. p k.0) q alike))
 
   fewer : (a : ℕ) (hs : List Held) → share a (filter (λ h. p h.actor) hs) ≤ share a hs

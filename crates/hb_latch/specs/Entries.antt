@@ -1,8 +1,7 @@
 -- What a table keeps: its latches, by actor and then by page.
-use Rattle.std.specs.Prelude.{◌≡◌, ℕ, ◌<◌, ◌≤◌, ◌==◌, Bool, not, ◌&&◌, List, length, map, count_by, IsTrue}
-use Rattle.std.specs.List.{All, AllWithin, HoldsAt}
+use Rattle.std.specs.Prelude.{ℕ, ◌≤◌, ◌==◌, Bool, not, ◌&&◌, List, map, count_by, IsTrue}
+use Rattle.std.specs.List.{All}
 use Rattle.std.specs.FinMap.{is_sorted}
-use Rattle.std.specs.declared.cmp.Ordering.TheVariants.{Less, Greater}
 use Rattle.hb_latch.specs.declared.latches.TheConstants.{LATCHES}
 use Rattle.hb_latch.specs.declared.modes.Mode.{Mode}
 use Rattle.hb_latch.specs.declared.entries.Held.{Held}
@@ -27,14 +26,3 @@ pub record IsKept (latches : List Held) : Type 0 where
   pub rising : IsTrue (is_sorted latch_cmp (table_entries latches))
   pub actors : All (λ h. IsActor h.actor) latches
   pub few : (actor : ℕ) → count_by (λ h. h.actor == actor) latches ≤ LATCHES
-
--- the latch at the place is the one of the key
-pub record IsHeldAt (latches : List Held) (key : ℕ × ℕ) (place : ℕ) : Type 0 where
-  pub in_range : place < length latches
-  pub same_key : HoldsAt (λ h. key_of h ≡ key) latches place
-
--- a latch of the key would go to the place: lesser ones before it, and greater ones from it on
-pub record IsGapOf (latches : List Held) (key : ℕ × ℕ) (place : ℕ) : Type 0 where
-  pub in_range : place ≤ length latches
-  pub lesser_before : AllWithin (λ h. latch_cmp (key_of h) key ≡ Less) latches 0 place
-  pub greater_after : AllWithin (λ h. latch_cmp (key_of h) key ≡ Greater) latches place (length latches)

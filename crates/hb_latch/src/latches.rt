@@ -2,7 +2,8 @@ ghost use Rattle.std.specs.Prelude.{◌≡◌, ◌<◌, ◌≤◌, ◌↔◌, No
 ghost use Rattle.std.specs.FinMap as map;
 ghost use Rattle.hb_latch.specs.declared.modes.Mode.TheVariants.{Update, Exclusive};
 ghost use Rattle.std.specs.FinMap.{find as lookup};
-ghost use Rattle.hb_latch.specs.Entries.{conflicts, table_entries, IsHeldAt, IsGapOf, IsKept};
+ghost use Rattle.hb_latch.specs.Entries.{conflicts, key_of, table_entries, IsKept};
+ghost use Rattle.hb_lemmas.specs.Places.{IsGapFor, IsPlaceOf};
 ghost use Rattle.hb_latch.specs.Tables.{latch_cmp, mode_at, latches_of, IsGrantable, IsLeastInTheWay};
 ghost use Rattle.hb_space.specs.Actors.{IsActor};
 
@@ -175,8 +176,8 @@ fn in_the_way(latches: &[Held], actor: Actor, page: u32, mode: Mode) -> Option<A
 // Where the actor's latch on the page stands, or where it would go.
 fn place_of(latches: &[Held], actor: Actor, page: u32) -> usize
     requires { IsKept latches.now }
-    ensures found { IsSome (lookup latch_cmp (actor, page) (table_entries latches.now)) → IsHeldAt latches.now (actor, page) result }
-    ensures absent { lookup latch_cmp (actor, page) (table_entries latches.now) ≡ None → IsGapOf latches.now (actor, page) result }
+    ensures found { IsSome (lookup latch_cmp (actor, page) (table_entries latches.now)) → IsPlaceOf key_of latches.now (actor, page) result }
+    ensures absent { lookup latch_cmp (actor, page) (table_entries latches.now) ≡ None → IsGapFor latch_cmp key_of latches.now (actor, page) result }
 {
     match search(latches, actor, page) {
         Ok(place) | Err(place) => place,
@@ -186,8 +187,8 @@ fn place_of(latches: &[Held], actor: Actor, page: u32) -> usize
 // The same, with the answer which of the two it is.
 fn search(latches: &[Held], actor: Actor, page: u32) -> Result<usize, usize>
     requires { IsKept latches.now }
-    ensures found { IfOk result (IsHeldAt latches.now (actor, page)) }
-    ensures absent { IfErr result (IsGapOf latches.now (actor, page)) }
+    ensures found { IfOk result (IsPlaceOf key_of latches.now (actor, page)) }
+    ensures absent { IfErr result (IsGapFor latch_cmp key_of latches.now (actor, page)) }
 {
     latches.binary_search_by(|held| held.compare(actor, page))
 }

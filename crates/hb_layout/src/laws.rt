@@ -8,6 +8,7 @@ ghost use Rattle.hb_layout.specs.Offsets.{file_size, log_start, page_offset, slo
 
 /// The parts of a file stand one behind the other: the slot of a turn, the log areas behind both
 /// slots, the pages behind both areas, and all of them in the file.
+#[tactic(auto, using(crate::proofs::Facts::Parts::log_within, crate::proofs::Facts::Parts::page_within))]
 pub fn parts_of_a_file_stand_apart()
     ensures slots { (turn other : ℕ) → turn % 2 < other % 2 → slot_offset turn + PAGE ≤ slot_offset other }
     ensures logs { (turn other : ℕ) (meta : Said) → turn % 2 < other % 2 → log_start turn meta + meta.log ≤ log_start other meta }

@@ -6,4 +6,6 @@ pub mod Maps
 pub mod Numbers
 pub mod Orderings
 pub mod Pairs
+pub mod Places
+pub mod SortedEntries
 pub mod ZeroBytes

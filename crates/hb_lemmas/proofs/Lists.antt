@@ -1,5 +1,5 @@
 -- Lists of any elements: what is true of each, of a whole and of its parts, what stands at a place, and tests of it.
-use Rattle.std.proofs.Common.{◌≡◌, ◌≢◌, ◌↔◌, ◌⊎◌, inl, inr, ℕ, zero, suc, ◌+◌, ◌<◌, Bool, true, false, IsTrue, cond, List, [], ◌∷◌, ◌++◌, length, take, drop, get_or, slice_set, slice_get, All, Contains, Some, refl, sym, ap, subst, ◌∙◌, arith}
+use Rattle.std.proofs.Common.{◌≡◌, ◌≢◌, ◌↔◌, ◌⊎◌, inl, inr, ℕ, zero, suc, ◌+◌, ◌<◌, Bool, true, false, IsTrue, cond, List, [], ◌∷◌, ◌++◌, length, take, drop, get_or, slice_set, slice_get, All, Contains, Some, refl, sym, ap, subst, ◌∙◌, arith, map}
 use Rattle.std.specs.List.{AllByRecursion, filter}
 use Rattle.std.proofs.Math.Seq.{take-append_seam}
 use Rattle.std.proofs.lemmas.Bool.{cases_Bool, false≢true}
@@ -129,6 +129,12 @@ at_place P xs place x all is = All-contains P xs x all (place_member xs place x 
 -- and each member stands somewhere
 pub member_place : {X : Type 0} (xs : List X) (x : X) → Contains xs x → (place : ℕ) × (slice_get xs place ≡ Some x)
 member_place xs x (place, lt, is) = (place, slice_get-get_or xs place x lt ∙ ap Some is)
+
+-- what a list of images has at a place is the image of what the list has there
+pub mapped_place : {X Y : Type 0} (f : X → Y) (xs : List X) (place : ℕ) (y : Y) → slice_get (map f xs) place ≡ Some y → (x : X) × (slice_get xs place ≡ Some x) × (f x ≡ y)
+mapped_place f [] place y is = cc
+mapped_place f (x ∷ xs) zero y is = (x, refl, let same : f x ≡ y = cc in same)
+mapped_place f (x ∷ xs) (suc place) y is = mapped_place f xs place y is
 
 -- each place within the list has something
 pub place_within : {X : Type 0} (xs : List X) (n : ℕ) → n < length xs → (x : X) × (slice_get xs n ≡ Some x)

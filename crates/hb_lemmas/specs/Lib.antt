@@ -1,3 +1,4 @@
 pub mod Numbers
 pub mod Threads
 pub mod Options
+pub mod Places

@@ -1,10 +1,10 @@
-//! What no crate of the project owns: lemmas on lists, options, maps, tests and numbers as bytes.
+//! What no crate of the project owns: lemmas on lists, options, maps, tests, sorted elements and numbers as bytes.
 //!
 //! The one contract: nothing here speaks of points, pages or disks. `proofs/` has a file for each kind
 //! of thing, and a lemma stands there in its most general form; what the library has already, as
 //! `and_parts`, `or_parts`, `cond-true`, `same_Some`, `All-append`, is cited from there. `specs/` has
-//! the words that several crates use: a number's bytes, one step of reading after another, and that a type crosses
-//! threads. The two functions are what crates would else have each a copy of.
+//! the words that several crates use: a number's bytes, one step of reading after another, the place of a key among sorted
+//! elements, and that a type crosses threads. The two functions are what crates would else have each a copy of.
 #![tactic(auto)]
 
 ghost use Rattle.std.specs.Prelude.{◌≡◌, ◌==◌};

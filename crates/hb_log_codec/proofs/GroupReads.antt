@@ -1,5 +1,5 @@
 -- What the readers of page images, operations and groups find, step by step.
-use Rattle.std.proofs.Common.{◌≡◌, ◌≢◌, ◌⊎◌, inl, inr, ℕ, ◌+◌, ◌-◌, ◌<◌, ◌≤◌, List, [], ◌∷◌, ◌++◌, length, map, take, drop, All, Some, Result, Ok, Err, refl, sym, ap, subst, ◌∙◌, append_assoc, length-append, arith}
+use Rattle.std.proofs.Common.{◌≡◌, ◌≢◌, ◌⊎◌, inl, inr, ℕ, ◌+◌, ◌-◌, ◌<◌, ◌≤◌, List, [], ◌∷◌, ◌++◌, length, map, take, drop, All, Some, Result, Ok, Err, sym, ap, subst, ◌∙◌, append_assoc, length-append, arith}
 use Rattle.std.specs.Prelude.{AllPairs}
 use Rattle.std.specs.List.{flat_map}
 use Rattle.std.proofs.lemmas.List.{take_at, drop_at, take-append-drop, length-take, length-drop, map-append, flat_map_more}
@@ -82,9 +82,6 @@ page_image_begins f bytes n behind front back page fits e parts spelled =
     }
 
 -- ---- page images
-
-pub page_images_begin : (bytes : List ℕ) → Begins (FitPageImages 0) page_images_bytes bytes [] bytes
-page_images_begin bytes = record { fits = record { many = refl; each = All-nil FitsPageImage }; parts = refl }
 
 pub page_images_more : (count : ℕ) (bytes : List ℕ) (images : List (ℕ × Page)) (rest : List ℕ) (page_image : ℕ × Page) (after : List ℕ) → Begins (FitPageImages count) page_images_bytes bytes images rest
     → Begins FitsPageImage page_image_bytes rest page_image after → Begins (FitPageImages (count + 1)) page_images_bytes bytes (images ++ page_image ∷ []) after

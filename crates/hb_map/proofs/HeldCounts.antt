@@ -5,13 +5,13 @@ use Rattle.std.proofs.lemmas.Bool.{cases_lt, false≢true}
 use Rattle.std.proofs.lemmas.Grind.{flat_map-append}
 use Rattle.std.proofs.lemmas.List.Sums.{sum_by-append, sum_by-cons}
 use Rattle.hb_space.specs.Boxes.{Area, Cuts, Holds, IsArea, holds, side_below, side_from}
-use Rattle.hb_space.proofs.Facts.Boxes.{Holds-side_below, Holds-side_from, Holds-from_test}
+use Rattle.hb_space.proofs.Facts.Boxes.{Holds-side_below, Holds-side_from, Holds-from_test, test-from_Holds}
 use Rattle.hb_frag.specs.declared.leaves.Leaf.{Leaf}
 use Rattle.hb_frag.specs.declared.leaves.Leaf.TheVariants.{Records, Child, Sibling}
 use Rattle.hb_frag.specs.Trees.{Tree, Tip, Cut}
 use Rattle.hb_frag.specs.Leaves.{IsWellCut, Placed, leaves_of, siblings}
 use Rattle.hb_frag.specs.Rules.{BelongsAt}
-use Rattle.hb_frag.proofs.Facts.Sides.{IsArea-side_below, IsArea-side_from, failed_test, held_test, not_below, not_from, outside_below, outside_from, same-side_from}
+use Rattle.hb_frag.proofs.Facts.Sides.{IsArea-side_below, IsArea-side_from, failed_test, not_below, not_from, outside_below, outside_from, same-side_from}
 use Rattle.hb_frag.proofs.Facts.NamesListed.{siblings-append}
 use Rattle.hb_lemmas.proofs.Lists.{whole}
 use Rattle.hb_map.specs.Boxes.{if_records}
@@ -43,16 +43,16 @@ one_leaf (Cut axis value left right) area p box cut same =
               let held = Holds-from_test area p test in
               elim (cases_lt (get_or p axis 0) value) [
                 | inl less ↦
-                    let here = held_test (side_below area axis value) p low ((Holds-side_below area axis value p box cut).1 (held, less)) in
+                    let here = test-from_Holds (side_below area axis value) p low ((Holds-side_below area axis value p box cut).1 (held, less)) in
                     let there = failed_test (side_from area axis value) p (λ h. not_from area axis value p cut less h) in
                     rw (here, there) refl
                 | inr more ↦
-                    let here = held_test (side_from area axis value) p high ((Holds-side_from area axis value p cut).1 (held, more)) in
+                    let here = test-from_Holds (side_from area axis value) p high ((Holds-side_from area axis value p cut).1 (held, more)) in
                     let there = failed_test (side_below area axis value) p (λ h. not_below area axis value p box cut more h) in
                     rw (there, here) refl
               ]
           | false ↦ λ test.
-              let outside : Holds area p → ⊥ = λ h. false≢true (sym test ∙ held_test area p box h) in
+              let outside : Holds area p → ⊥ = λ h. false≢true (sym test ∙ test-from_Holds area p box h) in
               let here = failed_test (side_below area axis value) p (outside_below area axis value p box cut outside) in
               let there = failed_test (side_from area axis value) p (outside_from area axis value p cut outside) in
               rw (here, there) refl
@@ -135,7 +135,7 @@ none_holds p [] boxes none = tt
 none_holds p (s ∷ rest) boxes none =
     let whole = sum_by-cons (λ (s : ℕ × Area). cond (holds s.1 p) 1 0) s rest in (
       λ held.
-          let test = held_test s.1 p boxes.0 held in
+          let test = test-from_Holds s.1 p boxes.0 held in
           let one : one_if (holds s.1 p) ≡ 1 = ap one_if test in
           absurd (omega (arith, whole, none, one)),
       none_holds p rest boxes.1 (omega (arith, whole, none)),

@@ -1,5 +1,5 @@
 -- How many pages name a page, counted page by page.
-use Rattle.std.proofs.Common.{◌≡◌, ◌≢◌, ℕ, ◌+◌, ◌-◌, ◌==◌, ◌<◌, ◌≤◌, ◌^◌, ◌||◌, ◌⊎◌, get_or, length, set, true, false, not, cond, List, [], ◌∷◌, take, filter, refl, sym, ap, subst, ◌∙◌, arith, inl, inr}
+use Rattle.std.proofs.Common.{◌≡◌, ◌≢◌, ℕ, ◌+◌, ◌-◌, ◌==◌, ◌<◌, ◌≤◌, ◌^◌, ◌||◌, get_or, length, set, true, false, not, cond, List, [], ◌∷◌, take, filter, refl, sym, ap, subst, ◌∙◌, arith, inl, inr}
 use Rattle.std.specs.List.{count_by, list_any}
 use Rattle.std.proofs.lemmas.Bool.{cases_eq, eq-eqb, ne_eqb}
 use Rattle.std.proofs.lemmas.List.{get_or-set_other, get_or-set_same, take_all}
@@ -76,12 +76,6 @@ raised counts id place some few = elim (cases_eq id (place + 1)) [
   where
     unchanged : (n id other : ℕ) → id ≢ other → n ≡ n + cond (id == other) 1 0
     unchanged n id other ne = omega arith ∙ sym (ap (λ b. n + cond b 1 0) (ne_eqb id other ne))
-
--- and none where no page has the number
-pub not_raised : (counts : List ℕ) (id place : ℕ) → place < length counts → (id ≡ 0) ⊎ (length counts < id) → get_or counts place 0 ≡ get_or counts place 0 + cond (id == place + 1) 1 0
-not_raised counts id place within none =
-    let ne : id ≢ place + 1 = λ is. elim none [ inl zero ↦ omega (arith, is, zero) | inr beyond ↦ omega (arith, is, beyond, within) ] in
-    omega arith ∙ sym (ap (λ b. get_or counts place 0 + cond b 1 0) (ne_eqb id (place + 1) ne))
 
 -- the counts stay small while the names of a page are gone through
 pub room_left : (names items : List ℕ) (id i : ℕ) (old now : ℕ) → items ≡ firsts names → now ≤ old + times id (take i items) → old < 2 ^ 31 → now < 2 ^ 32 - 1

@@ -5,13 +5,12 @@ use Rattle.std.proofs.lemmas.Bool.{cases_eq}
 use Rattle.std.proofs.lemmas.List.Sums.{sum_by-append, sum_by-cons}
 use Rattle.std.proofs.lemmas.List.Elements.{All-from_recursion, recursion_from_All}
 use Rattle.hb_space.specs.Boxes.{Area, IsArea, holds}
-use Rattle.hb_space.proofs.Facts.Boxes.{Holds-from_test}
+use Rattle.hb_space.proofs.Facts.Boxes.{Holds-from_test, test-from_Holds}
 use Rattle.hb_frag.specs.declared.pages.LivePage.{LivePage}
 use Rattle.hb_frag.specs.declared.pages.Page.{Page}
 use Rattle.hb_frag.specs.declared.pages.Page.TheVariants.{Live, Free}
 use Rattle.hb_frag.specs.Leaves.{DirectlyHolds, Placed, leaves_of, siblings}
 use Rattle.hb_frag.specs.Rules.{BelongsAt}
-use Rattle.hb_frag.proofs.Facts.Sides.{held_test}
 use Rattle.hb_frag.proofs.Facts.Tiles.{leaves_placed, tiles_areas}
 use Rattle.hb_ops.specs.Files.{FileState, live_page}
 use Rattle.hb_ops.specs.Sound.{IsSound}
@@ -44,10 +43,6 @@ sum_one f (q ∷ rest) (suc place) page there one none =
     let later = sum_one f rest place page there one (λ n r there apart. none (suc n) r there (λ same. apart (omega (arith, same)))) in
     omega (arith, whole, here, later)
 
--- how many boxes of a page with records hold the point, and all pages together
-in_page : List ℕ → Page → ℕ
-in_page p q = count_by (λ (a : Area). holds a p) (record_boxes q)
-
 over_pages : (p : List ℕ) (pages : List Page) → count_by (λ (a : Area). holds a p) (flat_map record_boxes pages) ≡ sum_by (λ (q : Page). count_by (λ (a : Area). holds a p) (record_boxes q)) pages
 over_pages p [] = refl
 over_pages p (q ∷ rest) =
@@ -78,7 +73,7 @@ module _ (boxes : PagesHaveBoxes) (s : FileState) (p : List ℕ) (sound : IsSoun
   at_home : (id : ℕ) (page : LivePage) → live_page s id ≡ Some page → page.level ≡ 0 → DirectlyHolds page p → by_records p (leaves_of page.frag page.area) ≡ 1
   at_home id page live on direct =
       let box = boxes s id page sound some few live in
-      let held : one_if (holds page.area p) ≡ 1 = ap one_if (held_test page.area p box direct.inside) in
+      let held : one_if (holds page.area p) ≡ 1 = ap one_if (test-from_Holds page.area p box direct.inside) in
       let none = none_counts p (siblings (leaves_of page.frag page.area)) (holes_are_boxes id page live) (recursion_from_All (HoldsNot p) _ direct.not_given) in
       let sum = on_level id page live on in
       omega (arith, held, none, sum)

@@ -24,9 +24,6 @@ stopped (Ok x) a b whole bad front = absurd (false≢true bad)
 stopped (Err e) a b whole bad front = record { done = tt; tried = front }
 
 -- of what goes on with what was put before, and with a front of the next piece
-pub still_front : (a b : Option (List ℕ)) (p q whole : List ℕ) → p ++ q ≡ whole → Appends a b p → AppendsFront a b whole
-still_front a b p q whole is put = subst (AppendsFront a b) is (front_put a b p q put)
-
 pub longer_front : (a b c : Option (List ℕ)) (p q rest whole : List ℕ) → p ++ (q ++ rest) ≡ whole → Appends a b p → AppendsFront b c q → AppendsFront a c whole
 longer_front a b c p q rest whole is put tried = subst (AppendsFront a c) is (Appends-front a b c p (q ++ rest) put (AppendsFront-longer b c q rest tried))
 

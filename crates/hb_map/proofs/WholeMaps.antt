@@ -1,6 +1,5 @@
 -- The whole map, of its first line and the lines of all pages.
-use Rattle.std.proofs.Common.{◌≡◌, ℕ, ◌+◌, ◌<◌, ◌≤◌, Some, List, [], ◌++◌, length, drop, get_or, Option, Result, IsErr, sym, ap, subst, ◌∙◌, append_assoc, append-nil}
-use Rattle.std.proofs.Math.ListN.{drop_of_length-le}
+use Rattle.std.proofs.Common.{◌≡◌, ℕ, ◌+◌, ◌<◌, Some, List, [], ◌++◌, length, drop, get_or, Option, Result, IsErr, sym, ap, subst, ◌∙◌, append_assoc}
 use Rattle.hb_disk.specs.Model.{DiskModel}
 use Rattle.hb_frag.specs.declared.pages.Page.{Page}
 use Rattle.hb_layout.specs.declared.meta.Meta.{Meta}
@@ -50,9 +49,3 @@ pub page_behind : (s : FileState) (place : ℕ) (page : Page) (parents so_far : 
     → (so_far ++ page_text (place + 1) (get_or parents place 0) page) ++ pages_text s.pages (place + 1 + 1) (drop (place + 1) s.pages) ≡ pages_text s.pages 1 s.pages
 page_behind s place page parents so_far there counted low before =
     append_assoc so_far (page_text (place + 1) (get_or parents place 0) page) (pages_text s.pages (place + 1 + 1) (drop (place + 1) s.pages)) ∙ page_next s place page parents so_far there counted low before
-
--- all pages
-pub all_pages : (s : FileState) (place : ℕ) (so_far : List ℕ) → length s.pages ≤ place → so_far ++ pages_text s.pages (place + 1) (drop place s.pages) ≡ pages_text s.pages 1 s.pages → so_far ≡ pages_text s.pages 1 s.pages
-all_pages s place so_far end before =
-    let none : drop place s.pages ≡ [] = drop_of_length-le s.pages end in
-    sym (append-nil so_far) ∙ ap (λ (ps : List Page). so_far ++ pages_text s.pages (place + 1) ps) (sym none) ∙ before

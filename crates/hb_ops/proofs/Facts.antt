@@ -1,11 +1,11 @@
 pub mod CutLeafLaws
 pub mod CutShapeLaws
-pub mod LeafBoxLaws
 pub mod LeafHalfLaws
 pub mod PageNumberLaws
 pub mod PartedPageLaws
 pub mod PathLaws
 pub mod PlacedLaws
+pub mod Volumes
 pub mod StemLaws
 pub mod Opened
 pub mod Tips

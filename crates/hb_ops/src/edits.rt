@@ -2,11 +2,13 @@
 
 ghost use Rattle.std.specs.Prelude.{◌≡◌, ◌+◌, ◌<◌, ◌≤◌, ◌^◌, ◌==◌, ◌++◌, ◌∷◌, if◌then◌else◌, List, length, take, drop, AllPairs, IfOk, IfErr, IsErrOf, MatchOption, OnOk};
 ghost use Rattle.hb_space.specs.Boxes.{Holds};
+ghost use Rattle.hb_space.specs.Points.{point_cmp};
 ghost use Rattle.hb_space.specs.declared.records.Record.{Record as Entry};
 ghost use Rattle.hb_frag.specs.declared.leaves.Leaf.TheVariants as kinds;
 ghost use Rattle.hb_frag.specs.Leaves.{WellCut, weight_of, with_leaf_at};
-ghost use Rattle.hb_frag.specs.Rules.{Precedes};
-ghost use Rattle.hb_ops.specs.Recording.{HasGap, HasPlace, IsAt, IsGapFor, IsOpenAt, FitsDel, FitsPut, del_page, put_page};
+ghost use Rattle.hb_frag.specs.Rules.{Precedes, point_of};
+ghost use Rattle.hb_lemmas.specs.Places.{IsGapFor, IsPlaceOf};
+ghost use Rattle.hb_ops.specs.Recording.{HasGap, HasPlace, IsOpenAt, FitsDel, FitsPut, del_page, put_page};
 ghost use Rattle.hb_ops.specs.declared.changes.ChangeError.TheVariants.{Unfit, NoMemory as Starved};
 
 use crate::local::local_rule;
@@ -129,8 +131,8 @@ fn open_at<'a>(page: &'a LivePage, meta: &Meta, point: &Point) -> Option<&'a Rec
 // Where the point is, or where it would go.
 pub(crate) fn place_of(records: &[Record], point: &Point) -> Result<usize, usize>
     requires { AllPairs Precedes records.now }
-    ensures found { IfOk result (IsAt records.now point.now) }
-    ensures absent { IfErr result (IsGapFor records.now point.now) }
+    ensures found { IfOk result (IsPlaceOf point_of records.now point.now) }
+    ensures absent { IfErr result (IsGapFor point_cmp point_of records.now point.now) }
 {
     records.binary_search_by(|record| record.key.cmp(point))
 }

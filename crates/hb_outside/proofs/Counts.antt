@@ -1,18 +1,10 @@
 -- What sources and sinks in memory count, move and keep.
-use Rattle.std.proofs.Common.{◌≡◌, ℕ, ◌+◌, ◌-◌, ◌^◌, ◌<◌, List, [], length, take, drop, Some, Err, inl, inr, refl, sym, ap, subst, ◌∙◌, arith}
-use Rattle.std.proofs.lemmas.Bool.{cases_lt}
+use Rattle.std.proofs.Common.{◌≡◌, ℕ, ◌+◌, ◌-◌, ◌^◌, ◌<◌, List, [], length, take, drop, Some, Err, refl, sym, ap, subst, ◌∙◌, arith}
 use Rattle.std.proofs.lemmas.List.{append-nil, drop-drop, take_rest}
 use Rattle.hb_outside.specs.Calls.{Counts, Puts}
 use Rattle.hb_outside.specs.Memory.{next_count}
-use Rattle.hb_outside.specs.Streams.{Rose, TakesFront, Takes}
-use Rattle.hb_outside.proofs.Facts.CountLaws.{Counts-rose}
-
--- a count that went on rose
-pub Rose-next_count : (before after : ℕ) → after ≡ next_count before → Rose before after
-Rose-next_count before after e = elim (cases_lt before (2 ^ 64 - 1)) [
-  | inl less ↦ inl (omega (arith, less))
-  | inr last ↦ inr (omega (arith, last))
-]
+use Rattle.hb_outside.specs.Streams.{TakesFront, Takes}
+use Rattle.hb_outside.proofs.Facts.CountLaws.{Counts-rose, Rose-next_count}
 
 -- a call that failed and was counted
 pub Counts-failed : {failed : Type 0} (before after : ℕ) → failed → before < 2 ^ 64 → after ≡ next_count before → Counts failed before after

@@ -78,9 +78,6 @@ chosen_of_six = record {
 abbrev split_deed : Line → List Side → List LeafCut → ℕ → ℕ → List ℕ → Deed
 split_deed line path cuts fresh after corner = does (SessionPut line 5 fresh) (Extract 5 fresh path cuts after) (record { kind = Post; level = 1; point = corner } ∷ [])
 
-abbrev IdNumbers : ℕ × ℕ → ℕ × ℕ → Type 0
-IdNumbers a b = a ≡ b
-
 module _ (s : Sight) (line : Line) where
   free_split : s.page_at 5 ≡ Some six_records → s.meta.live ≡ 3 → s.meta.pages ≡ 9 → s.next ≡ Some (9, 4) → IsOnly (SplitsOrFull s line 5) (split_deed line [] (at_forty ∷ []) 9 4 (0 ∷ []))
   free_split live used pages next = record {
@@ -95,7 +92,7 @@ module _ (s : Sight) (line : Line) where
     where
       leaving : (other : Deed) (leaves : PartLeavesTo s (IsChosen six_records) six_records) → other ≡ split_deed line leaves.path leaves.cuts leaves.fresh leaves.free_after (corner_of leaves) → other ≡ split_deed line [] (at_forty ∷ []) 9 4 (0 ∷ [])
       leaving other leaves is =
-          let numbers : IdNumbers (leaves.fresh, leaves.free_after) (9, 4) = same_Some (leaves.fresh, leaves.free_after) (9, 4) (sym leaves.next ∙ next) in
+          let numbers : ◌≡◌ {A = ℕ × ℕ} (leaves.fresh, leaves.free_after) (9, 4) = same_Some (leaves.fresh, leaves.free_after) (9, 4) (sym leaves.next ∙ next) in
           let chosen = leaves.chosen in
           let whole : Tree × Area = (six_records.frag, six_records.area) in
           let path : leaves.path ≡ [] = chosen.way in

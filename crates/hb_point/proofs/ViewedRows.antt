@@ -67,9 +67,6 @@ cut_there v meta p = so v (λ page. HasLeafOfRecords meta page p) WellCut (λ pa
 pub held_there : (v : Page) (meta : Meta) (p : List ℕ) → HasRecordsIn meta v p → IsLiveAnd v (λ page. Holds page.area p)
 held_there v meta p = so v (λ page. HasLeafOfRecords meta page p) (λ page. Holds page.area p) (λ page has. has.inside)
 
-pub is_absent : (v : Page) (p : List ℕ) (body : Option (List ℕ)) → body ≡ None → IsLiveAnd v (λ page. StandsIn page p body) → IsLiveAnd v (λ page. StandsNot page p)
-is_absent v p body none = subst (λ (b : Option (List ℕ)). IsLiveAnd v (λ page. StandsIn page p b) → IsLiveAnd v (λ page. StandsNot page p)) (sym none) (λ h. h)
-
 pub is_there : (v : Page) (p : List ℕ) (found : List ℕ) (body : Option (List ℕ)) → body ≡ Some found → IsLiveAnd v (λ page. StandsIn page p body) → IsLiveAnd v (λ page. (r : Record) × StandsThere page p r)
 is_there v p found body some h = so v (λ page. StandsIn page p (Some found)) (λ page. (r : Record) × StandsThere page p r) (λ page h. (h.0, h.1)) (subst (λ (b : Option (List ℕ)). IsLiveAnd v (λ page. StandsIn page p b)) some h)
 

@@ -131,9 +131,6 @@ no_cuts (cut ∷ cuts) chosen = absurd (let heavy = chosen.0.heavy in let w : we
 abbrev split_deed : Job → List Side → List LeafCut → ℕ → ℕ → ℕ → List ℕ → Deed
 split_deed job path cuts fresh after level corner = does PosterIdle (ops.Extract 3 fresh path cuts after) (record { kind = Post; level = level; point = corner } ∷ job ∷ [])
 
-abbrev IdNumbers : ℕ × ℕ → ℕ × ℕ → Type 0
-IdNumbers a b = a ≡ b
-
 module _ (s : Sight) (job : Job) where
   free_split : job.level ≡ 1 → s.meta.live ≡ 8 → s.meta.pages ≡ 9 → s.next ≡ Some (9, 0) → IsOnly (DoesPlan s job 3 six_children plans.SplitFirst) (split_deed job (Right ∷ []) [] 9 0 2 (100 ∷ []))
   free_split level used pages next = record {
@@ -146,7 +143,7 @@ module _ (s : Sight) (job : Job) where
     where
       leaving : (other : Deed) (leaves : PartLeavesTo s (IsChosen six_children) six_children) → other ≡ split_deed job leaves.path leaves.cuts leaves.fresh leaves.free_after (job.level + 1) (corner_of leaves) → other ≡ split_deed job (Right ∷ []) [] 9 0 2 (100 ∷ [])
       leaving other leaves is =
-          let numbers : IdNumbers (leaves.fresh, leaves.free_after) (9, 0) = same_Some (leaves.fresh, leaves.free_after) (9, 0) (sym leaves.next ∙ next) in
+          let numbers : ◌≡◌ {A = ℕ × ℕ} (leaves.fresh, leaves.free_after) (9, 0) = same_Some (leaves.fresh, leaves.free_after) (9, 0) (sym leaves.next ∙ next) in
           let chosen = leaves.chosen in
           let path : leaves.path ≡ Right ∷ [] = chosen.way in
           let part : chosen.part ≡ four_children = same_Some chosen.part four_children (sym chosen.found ∙ ap (λ (w : List Side). part_at w six_children.frag six_children.area) path) in

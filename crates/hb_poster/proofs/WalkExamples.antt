@@ -34,9 +34,6 @@ takes_by_hand job = record {
 
 -- ---- growing
 
-abbrev IdNumbers : ℕ × ℕ → ℕ × ℕ → Type 0
-IdNumbers a b = a ≡ b
-
 module _ (s : Sight) (job : Job) where
   grows : job.level ≡ 2 → s.meta.height ≡ 2 → s.meta.live ≡ 3 → s.meta.pages ≡ 9 → s.next ≡ Some (9, 4) → IsOnly (AtRoot s job gave_some) (does PosterIdle (ops.Grow 9 4) (job ∷ []))
   grows level height used pages next = record {
@@ -49,7 +46,7 @@ module _ (s : Sight) (job : Job) where
 
       only : (other : Deed) → AtRoot s job gave_some other → other ≡ does PosterIdle (ops.Grow 9 4) (job ∷ [])
       only other (inl row) =
-          let numbers : IdNumbers (row.fresh, row.free_after) (9, 4) = same_Some (row.fresh, row.free_after) (9, 4) (sym row.next ∙ next) in
+          let numbers : ◌≡◌ {A = ℕ × ℕ} (row.fresh, row.free_after) (9, 4) = same_Some (row.fresh, row.free_after) (9, 4) (sym row.next ∙ next) in
           row.deed_is ∙ ap (λ (n : ℕ × ℕ). does PosterIdle (ops.Grow n.0 n.1) (job ∷ [])) numbers
       only other (inr row) = absurd (by row.why)
         where

@@ -1,11 +1,9 @@
 -- What the bytes of a new file are.
 use Rattle.std.specs.Result.{is_err}
-use Rattle.std.proofs.Common.{true, false, ◌≡◌, ◌⊎◌, inl, inr, ℕ, ◌+◌, ◌*◌, ◌-◌, ◌<◌, ◌≤◌, List, [], ◌∷◌, ◌++◌, length, take, drop, replicate, get_or, Some, IfSome, Result, Ok, Err, OnOk, refl, sym, ap, ◌∙◌, subst, arith, length-take, length-drop}
+use Rattle.std.proofs.Common.{true, false, ◌≡◌, ◌⊎◌, inl, inr, ℕ, ◌+◌, ◌*◌, ◌-◌, ◌<◌, ◌≤◌, List, [], ◌++◌, length, take, drop, replicate, get_or, Some, IfSome, Result, Ok, Err, OnOk, refl, sym, ap, ◌∙◌, subst, arith, length-take, length-drop}
 use Rattle.std.proofs.lemmas.List.{get_or-take, get_or-drop, ext_get_or, length-replicate, get_or-replicate}
 use Rattle.hb_space.specs.declared.form.TheConstants.{PAGE}
-use Rattle.hb_lemmas.specs.Numbers.{big_endian}
 use Rattle.hb_disk.specs.Model.{DiskModel, IsDisk, overwritten}
-use Rattle.hb_disk.specs.Calls.{open_gate}
 use Rattle.hb_lemmas.proofs.Options.{at_value, of_value, has_value}
 use Rattle.std.proofs.lemmas.Option.{same_Some}
 use Rattle.hb_disk.proofs.Facts.SyncedLaws.{IsSynced-durable}
@@ -14,7 +12,7 @@ use Rattle.hb_disk.proofs.Facts.OverwrittenLaws.{length-overwritten, overwritten
 use Rattle.hb_frag.specs.declared.pages.Page.{Page}
 use Rattle.hb_frag.specs.Grammar.{SpellsPage}
 use Rattle.hb_wal.specs.Frames.{range}
-use Rattle.hb_super.specs.Superblocks.{IsNewest, body_bytes}
+use Rattle.hb_super.specs.Superblocks.{IsNewest}
 use Rattle.hb_super.specs.Moments.{HasNoBody}
 use Rattle.hb_super.proofs.Facts.BodyLaws.{HasNoBody-elsewhere, HasNoBody-same, HasNoBody-zero}
 use Rattle.hb_layout.specs.declared.meta.Meta.{Meta}
@@ -55,10 +53,6 @@ zeroed_places b n some fits = record {
     zero_at i lt =
         overwritten-inside b 0 (replicate n 0) (omega (arith, long, fits)) i (omega arith) (omega (arith, long, lt))
         ∙ get_or-replicate n (i - 0) 0 0 (omega (arith, lt))
-
-pub frame_long : (meta : Meta) → length (open_gate ∷ body_bytes 0 meta) ≡ 41
-unfolding big_endian
-frame_long meta = refl
 
 pub on_ok_three : {T E : Type 0} (r : Result T E) (P Q R S : Type 0) → (P → Q → R → S) → OnOk r P → OnOk r Q → OnOk r R → OnOk r S
 on_ok_three (Ok v) P Q R S f p q h = f p q h

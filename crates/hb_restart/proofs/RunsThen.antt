@@ -11,7 +11,8 @@ use Rattle.hb_super.specs.Moments.{Clears}
 use Rattle.hb_super.proofs.Facts.ClearLaws.{cleared_cause, cleared_faults_later, cleared_few, cleared_no_fault, cleared_place, cleared_synced}
 use Rattle.hb_store.specs.Switching.{TornSwitch}
 use Rattle.hb_restart.specs.Renewing.{DiskFaults, Runs}
-use Rattle.hb_restart.proofs.Facts.Beyond.{beyond_none, beyond_then, beyond_wider, switch_within}
+use Rattle.hb_restart.proofs.Facts.Beyond.{beyond_none, beyond_then, beyond_wider}
+use Rattle.hb_store.proofs.Facts.PlaceWrites.{switch_within}
 
 -- no call failed
 pub faults_none : {F : Type 0} (d : DiskModel) → (F → ⊥) → DiskFaults F d d

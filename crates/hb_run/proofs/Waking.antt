@@ -1,7 +1,7 @@
 -- Whoever waited for what a turn brought is rung.
 use Rattle.std.proofs.Common.{◌≡◌, ℕ, ◌==◌, nat_lt, Bool, true, false, not, ◌||◌, ◌&&◌, List, is_some, refl, sym, ap, ◌∙◌}
 use Rattle.std.specs.List.{slice_get}
-use Rattle.std.proofs.lemmas.Bool.{false≢true, and_parts}
+use Rattle.std.proofs.lemmas.Bool.{false≢true, and_parts, or_right}
 use Rattle.hb_activity.specs.declared.jobs.JobKind.TheVariants.{Post, Merge}
 use Rattle.hb_lemmas.proofs.Booleans.{if_same}
 use Rattle.hb_run.specs.Courses.{Course}
@@ -10,14 +10,6 @@ use Rattle.hb_run.specs.declared.turns.News.{News}
 use Rattle.hb_run.specs.declared.turns.Pause.{Pause}
 use Rattle.hb_run.specs.declared.turns.Pause.TheVariants as pauses
 use Rattle.std.proofs.Math.Bool.{and-true}
-
-first : (a b : Bool) → (a && b) ≡ true → a ≡ true
-first true b is = refl
-first false b is = absurd (false≢true is)
-
-or_true : (a : Bool) → (a || true) ≡ true
-or_true true = refl
-or_true false = refl
 
 -- what waits for two things, of which one has come
 come : (stopped none : Bool) → (not stopped && none) ≡ false → stopped ≡ false → none ≡ false
@@ -44,12 +36,12 @@ due_came false false is = absurd (false≢true (sym is))
 -- and so of a place of the order: it was settled, or the round has ended, or nobody comes
 place_came : (place round s t r q : ℕ) (was_coming coming : Bool) → ((not (nat_lt place s) && (r == round)) && was_coming) ≡ true → ((not (nat_lt place t) && (q == round)) && coming) ≡ false
     → (not ((s == t) && (r == q)) || not coming) ≡ true
-place_came place round s t r q was_coming false was gone = or_true (not ((s == t) && (r == q)))
+place_came place round s t r q was_coming false was gone = or_right (not ((s == t) && (r == q))) true refl
 place_came place round s t r q was_coming true was gone =
     if_same s t (λ b. (not (b && (r == q)) || false) ≡ true)
     (λ same. if_same r q (λ b. (not (true && b) || false) ≡ true)
     (λ also. absurd (false≢true (sym gone ∙ and-true (not (nat_lt place t) && (q == round)) ∙ ap (λ n. not (nat_lt place t) && (n == round)) (sym also) ∙ ap (λ n. not (nat_lt place n) && (r == round)) (sym same)
-    ∙ first (not (nat_lt place s) && (r == round)) was_coming was)))
+    ∙ (and_parts (not (nat_lt place s) && (r == round)) was_coming was).0)))
     (λ apart. refl))
     (λ apart. refl)
 

@@ -3,7 +3,6 @@ use Rattle.std.proofs.Common.{◌≡◌, ◌-◌, suc, List, [], ◌∷◌, ◌+
 use Rattle.std.specs.List.{Contains, slice_get}
 use Rattle.std.proofs.lemmas.List.Elements.{All-contains, Contains-get_or}
 use Rattle.std.proofs.lemmas.Option.{slice_get_past, none-some}
-use Rattle.hb_space.proofs.Facts.PointOrder.{not_itself}
 use Rattle.hb_frag.proofs.Facts.Tiles.{tiles_areas}
 use Rattle.hb_frag.specs.Leaves.{WellCut, leaf_at, leaves_of}
 use Rattle.hb_frag.specs.Rules.{AreInOrder, IsInOrder}
@@ -16,6 +15,7 @@ use Rattle.hb_search.specs.Searching.{IsGathering}
 use Rattle.hb_space.proofs.Facts.Boxes.{Meets-from_point, lo_held}
 use Rattle.hb_space.specs.Boxes.{Area, Holds, IsArea}
 use Rattle.hb_space.specs.declared.records.Record.{Record}
+use Rattle.hb_frag.proofs.Facts.OrderedLeaves.{rising_differ}
 
 abbrev no_areas : List Area
 no_areas = []
@@ -54,5 +54,5 @@ module _ (page : LivePage) (rest : List Area) (found records : List Record) (are
         meets = meets;
         keys = λ k d lt. attributes (get_or records k d) (Contains-get_or records k d lt);
         stays = stays_apart split.0 found records at_hand area (subst (λ (l : List Area). IsGathering l found) split.1 gathering) is_area leaf_is inside.same meets
-            (λ r there. All-contains (λ s. Holds area s.key) records r in_leaf.inside there) (λ i j d less lt same. not_itself _ _ same (in_leaf.rising i j d less lt));
+            (λ r there. All-contains (λ s. Holds area s.key) records r in_leaf.inside there) (rising_differ records in_leaf.rising);
       }

@@ -1,6 +1,7 @@
 -- What the decider of a search's step is given, and what it may rely on.
-use Rattle.std.specs.Prelude.{◌≢◌, ◌⊎◌, ℕ, List, Some, All, AllPairs, MatchOption}
+use Rattle.std.specs.Prelude.{◌⊎◌, ℕ, List, Some, All, AllPairs, MatchOption}
 use Rattle.hb_frag.specs.declared.pages.LivePage.{LivePage}
+use Rattle.hb_frag.specs.Rules.{Differ}
 use Rattle.hb_set.specs.declared.commands.Command.{Command}
 use Rattle.hb_set.specs.declared.commands.Command.TheVariants.{Insert, Delete, Lookup, Search}
 use Rattle.hb_activity.specs.declared.activities.Activity.{Activity}
@@ -18,10 +19,6 @@ abbrev pub SearchRow : Activity → Sight → ℕ → LivePage → Deed → Type
 SearchRow (at.SessionWalk line held rest found) s id page deed = MatchOption (goal_of line.command rest) ⊥
     (λ p. PassesOn page p (at.SessionWalk line (Some id) rest found) deed ⊎ Gathers s line rest found page p deed)
 SearchRow other s id page deed = ⊥
-
--- two records are of different points
-abbrev pub Differ : Record → Record → Type 0
-Differ r s = r.key ≢ s.key
 
 -- What a search has between two pages: the boxes that remain have no point in common, and the records that it found are of
 -- different points, none of which lies in a box that remains.

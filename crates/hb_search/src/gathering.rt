@@ -2,11 +2,11 @@
 
 ghost use Rattle.std.specs.Prelude.{◌≡◌, ℕ, List, ◌++◌, length, All, AllPairs, IfOk, OnOk};
 ghost use Rattle.std.specs.List.Sorted.{IsPermutation};
-ghost use Rattle.hb_frag.specs.Rules.{Precedes};
+ghost use Rattle.hb_frag.specs.Rules.{Differ, Precedes};
 ghost use Rattle.hb_layout.specs.declared.meta.Meta.{Meta as Facts};
 ghost use Rattle.hb_search.specs.Gathering.{GathersBy, GoesOnBy, IsLeafAhead};
 ghost use Rattle.hb_search.specs.SearchRows.{records_within};
-ghost use Rattle.hb_search.specs.Searching.{Differ, IsGathering, StaysGathering};
+ghost use Rattle.hb_search.specs.Searching.{IsGathering, StaysGathering};
 ghost use Rattle.hb_space.specs.Boxes.{Meets, common_area, pieces_outside};
 
 use hb_activity::{Activity, Next};

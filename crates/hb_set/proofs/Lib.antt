@@ -1,4 +1,3 @@
 pub mod Facts
-mod Places
 mod Views
 mod Windows

@@ -1,12 +1,8 @@
--- The set that handles make, and what an edit of the handles makes of it.
-use Rattle.std.proofs.Common.{◌≡◌, ℕ, suc, not, List, [], ◌∷◌, length, get_or, map, Some, None, Box, All, filter, refl, sym, ap, subst, ◌∙◌, arith}
+-- The set that handles make, and what the machine answers to an edit of them.
+use Rattle.std.proofs.Common.{◌≡◌, ℕ, suc, List, [], ◌∷◌, length, get_or, map, Some, Box, All, filter, refl, sym, ap, subst, ◌∙◌, arith}
 use Rattle.std.specs.List.{insert, remove}
-use Rattle.std.specs.Ordering.{eq_by_cmp}
 use Rattle.std.specs.declared.alloc.Global.{Global}
 use Rattle.std.specs.FinMap as map
-use Rattle.std.specs.FinMap.{is_sorted}
-use Rattle.std.specs.FinMap.Entries.{is_sorted-put, is_sorted-where_key}
-use Rattle.std.proofs.Math.Dec.{T}
 use Rattle.std.proofs.Math.ListN.{get_or-map}
 use Rattle.std.proofs.lemmas.List.{length-map}
 use Rattle.std.proofs.lemmas.Cmp.{nat_list_cmp_total}
@@ -16,49 +12,18 @@ use Rattle.hb_space.specs.Boxes.{Area, holds}
 use Rattle.hb_set.specs.declared.commands.Command.TheVariants.{Insert, Delete, Lookup, Search}
 use Rattle.hb_set.specs.declared.commands.Reply.TheVariants.{Done, Duplicate, Absent, Found, Missing, Within}
 use Rattle.hb_set.specs.Machine.{RecordSet, record_of, set_records, HasAttributes, Answers, if_there, found_or_missing, reply_of}
-use Rattle.hb_set.proofs.Facts.MachineLaws.{entries_without, entries-remove}
-use Rattle.hb_set.specs.Kept.{records_behind, entries_behind, PointsRise, IsHandleAt, IsHandleGapFor}
-use Rattle.hb_set.proofs.Places.{find_at, find_gap, put_gap, without_at}
-use Rattle.hb_lemmas.proofs.Booleans.{T_true}
+use Rattle.hb_set.specs.Kept.{records_behind, entries_behind, PointsRise, point_behind, body_behind}
+use Rattle.hb_lemmas.proofs.SortedEntries.{entries_are, get_at, get_gap, map_insert, map_remove}
+use Rattle.hb_lemmas.specs.Places.{IsPlaceOf, IsGapFor}
+use Rattle.hb_space.proofs.Facts.PointOrder.{exact_points}
 
 -- the set of the records behind the handles
 abbrev pub set_behind : List (Box Record Global) → RecordSet
 set_behind hs = map.from_sorted (entries_behind hs)
 
-sorted_T : (hs : List (Box Record Global)) → PointsRise hs → T (is_sorted point_cmp (entries_behind hs))
-sorted_T hs r = subst T (sym r) tt
-
-pub entries_are : (hs : List (Box Record Global)) → PointsRise hs → map.entries (set_behind hs) ≡ entries_behind hs
-entries_are hs r = map.entries-from_sorted point_cmp (entries_behind hs) (sorted_T hs r)
-
--- what the set has at a point
-pub get_at : (hs : List (Box Record Global)) (p : List ℕ) (i : ℕ) (d : Box Record Global) → PointsRise hs → IsHandleAt hs p i → map.get (set_behind hs) p ≡ Some (get_or hs i d).value.body
-get_at hs p i d r at = map.get-from_sorted point_cmp (entries_behind hs) p (sorted_T hs r) ∙ find_at hs p i d r at
-
-pub get_gap : (hs : List (Box Record Global)) (p : List ℕ) (i : ℕ) → PointsRise hs → IsHandleGapFor hs p i → map.get (set_behind hs) p ≡ None
-get_gap hs p i r gap = map.get-from_sorted point_cmp (entries_behind hs) p (sorted_T hs r) ∙ find_gap hs p i gap
-
--- a record goes into its gap
-pub rise_insert : (hs : List (Box Record Global)) (n : Box Record Global) (i : ℕ) → PointsRise hs → IsHandleGapFor hs n.value.key i → PointsRise (insert hs i n)
-rise_insert hs n i r gap = T_true _ (subst (λ es. T (is_sorted point_cmp es)) (put_gap hs n i gap) (is_sorted-put point_cmp nat_list_cmp_total n.value.key n.value.body (entries_behind hs) (sorted_T hs r)))
-
-pub set_insert : (hs : List (Box Record Global)) (n : Box Record Global) (i : ℕ) → PointsRise hs → IsHandleGapFor hs n.value.key i → set_behind (insert hs i n) ≡ map.insert (set_behind hs) n.value.key n.value.body
-set_insert hs n i r gap = map.same_entries_map _ _ (
-    entries_are (insert hs i n) (rise_insert hs n i r gap)
-    ∙ sym (map.entries-insert nat_list_cmp_total (set_behind hs) n.value.key n.value.body ∙ ap (map.put point_cmp n.value.key n.value.body) (entries_are hs r) ∙ put_gap hs n i gap))
-
--- a record goes
-pub rise_remove : (hs : List (Box Record Global)) (p : List ℕ) (i : ℕ) → PointsRise hs → IsHandleAt hs p i → PointsRise (remove hs i)
-rise_remove hs p i r at = T_true _ (subst (λ es. T (is_sorted point_cmp es)) (without_at hs p i r at) (is_sorted-where_key point_cmp (λ x. not (eq_by_cmp point_cmp p x)) (entries_behind hs) (sorted_T hs r)))
-
-pub set_remove : (hs : List (Box Record Global)) (p : List ℕ) (i : ℕ) → PointsRise hs → IsHandleAt hs p i → set_behind (remove hs i) ≡ map.remove (set_behind hs) p
-set_remove hs p i r at = map.same_entries_map _ _ (
-    entries_are (remove hs i) (rise_remove hs p i r at)
-    ∙ sym (entries-remove (set_behind hs) p ∙ ap (entries_without p) (entries_are hs r) ∙ without_at hs p i r at))
-
 -- its records, in order
 pub records_are : (hs : List (Box Record Global)) → PointsRise hs → set_records (set_behind hs) ≡ records_behind hs
-records_are hs r = ap (map record_of) (entries_are hs r) ∙ one_by_one hs
+records_are hs r = ap (map record_of) (entries_are nat_list_cmp_total point_behind body_behind hs r) ∙ one_by_one hs
   where
     one_by_one : (hs : List (Box Record Global)) → map record_of (entries_behind hs) ≡ records_behind hs
     one_by_one [] = refl
@@ -66,15 +31,11 @@ records_are hs r = ap (map record_of) (entries_are hs r) ∙ one_by_one hs
 
 -- how many records it has
 pub len_is : (hs : List (Box Record Global)) → PointsRise hs → map.len (set_behind hs) ≡ length hs
-len_is hs r = map.len-entries (set_behind hs) ∙ ap length (entries_are hs r) ∙ one_by_one hs
+len_is hs r = map.len-entries (set_behind hs) ∙ ap length (entries_are nat_list_cmp_total point_behind body_behind hs r) ∙ one_by_one hs
   where
     one_by_one : (hs : List (Box Record Global)) → length (entries_behind hs) ≡ length hs
     one_by_one [] = refl
     one_by_one (h ∷ hs) = ap suc (one_by_one hs)
-
--- no record
-pub empty_is : (hs : List (Box Record Global)) → hs ≡ [] → set_behind hs ≡ map.empty
-empty_is hs none = ap set_behind none ∙ map.empty_of_len (set_behind []) (len_is [] refl)
 
 pub keys_have : (k : ℕ) (hs : List (Box Record Global)) → PointsRise hs → HasAttributes k (set_behind hs) → All (λ h. length h.value.key ≡ k) hs
 keys_have k hs r all i d lt =
@@ -82,38 +43,38 @@ keys_have k hs r all i d lt =
     subst (λ (r : Record). length r.key ≡ k) (get_or-map (λ (h : Box Record Global). h.value) hs i d) (each i d.value (simp length-map lt))
 
 -- a point at a place is there
-there : (hs : List (Box Record Global)) (p : List ℕ) (i : ℕ) → PointsRise hs → IsHandleAt hs p i → (body : List ℕ) × (map.get (set_behind hs) p ≡ Some body)
+there : (hs : List (Box Record Global)) (p : List ℕ) (i : ℕ) → PointsRise hs → IsPlaceOf point_behind hs p i → (body : List ℕ) × (map.get (set_behind hs) p ≡ Some body)
 there [] p i rise at = absurd (omega (arith, at.in_range))
-there (h ∷ hs) p i rise at = ((get_or (h ∷ hs) i h).value.body, get_at (h ∷ hs) p i h rise at)
+there (h ∷ hs) p i rise at = ((get_or (h ∷ hs) i h).value.body, get_at nat_list_cmp_total point_behind body_behind (h ∷ hs) p i h rise at)
 
 -- an insert where the point is there, and where it isn't
-pub insert_there : (hs : List (Box Record Global)) (r : Record) (i : ℕ) → PointsRise hs → IsHandleAt hs r.key i → Answers (set_behind hs) (Insert r) Duplicate (set_behind hs)
+pub insert_there : (hs : List (Box Record Global)) (r : Record) (i : ℕ) → PointsRise hs → IsPlaceOf point_behind hs r.key i → Answers (set_behind hs) (Insert r) Duplicate (set_behind hs)
 insert_there hs r i rise at =
     let found = (there hs r.key i rise at).1 in
     (sym (ap (λ o. if_there o Duplicate Done) found), sym (ap (λ o. if_there o (set_behind hs) (map.insert (set_behind hs) r.key r.body)) found))
 
-pub insert_done : (hs : List (Box Record Global)) (n : Box Record Global) (i : ℕ) → PointsRise hs → IsHandleGapFor hs n.value.key i → Answers (set_behind hs) (Insert n.value) Done (set_behind (insert hs i n))
+pub insert_done : (hs : List (Box Record Global)) (n : Box Record Global) (i : ℕ) → PointsRise hs → IsGapFor point_cmp point_behind hs n.value.key i → Answers (set_behind hs) (Insert n.value) Done (set_behind (insert hs i n))
 insert_done hs n i rise gap =
-    let none = get_gap hs n.value.key i rise gap in
-    (sym (ap (λ o. if_there o Duplicate Done) none), set_insert hs n i rise gap ∙ sym (ap (λ o. if_there o (set_behind hs) (map.insert (set_behind hs) n.value.key n.value.body)) none))
+    let none = get_gap nat_list_cmp_total point_behind body_behind hs n.value.key i rise gap in
+    (sym (ap (λ o. if_there o Duplicate Done) none), map_insert nat_list_cmp_total point_behind body_behind hs n i rise gap ∙ sym (ap (λ o. if_there o (set_behind hs) (map.insert (set_behind hs) n.value.key n.value.body)) none))
 
 -- a delete
-pub delete_done : (hs : List (Box Record Global)) (p : List ℕ) (i : ℕ) → PointsRise hs → IsHandleAt hs p i → Answers (set_behind hs) (Delete p) Done (set_behind (remove hs i))
+pub delete_done : (hs : List (Box Record Global)) (p : List ℕ) (i : ℕ) → PointsRise hs → IsPlaceOf point_behind hs p i → Answers (set_behind hs) (Delete p) Done (set_behind (remove hs i))
 delete_done hs p i rise at =
     let found = (there hs p i rise at).1 in
-    (sym (ap (λ o. if_there o Done Absent) found), set_remove hs p i rise at ∙ sym (ap (λ o. if_there o (map.remove (set_behind hs) p) (set_behind hs)) found))
+    (sym (ap (λ o. if_there o Done Absent) found), map_remove nat_list_cmp_total point_behind body_behind exact_points hs p i rise at ∙ sym (ap (λ o. if_there o (map.remove (set_behind hs) p) (set_behind hs)) found))
 
-pub delete_absent : (hs : List (Box Record Global)) (p : List ℕ) (i : ℕ) → PointsRise hs → IsHandleGapFor hs p i → Answers (set_behind hs) (Delete p) Absent (set_behind hs)
+pub delete_absent : (hs : List (Box Record Global)) (p : List ℕ) (i : ℕ) → PointsRise hs → IsGapFor point_cmp point_behind hs p i → Answers (set_behind hs) (Delete p) Absent (set_behind hs)
 delete_absent hs p i rise gap =
-    let none = get_gap hs p i rise gap in
+    let none = get_gap nat_list_cmp_total point_behind body_behind hs p i rise gap in
     (sym (ap (λ o. if_there o Done Absent) none), sym (ap (λ o. if_there o (map.remove (set_behind hs) p) (set_behind hs)) none))
 
 -- a lookup
-pub lookup_found : (hs : List (Box Record Global)) (p : List ℕ) (i : ℕ) (h : Box Record Global) → PointsRise hs → IsHandleAt hs p i → h ≡ get_or hs i h → Found h.value.body ≡ reply_of (Lookup p) (set_behind hs)
-lookup_found hs p i h rise at is = ap (λ (x : Box Record Global). Found x.value.body) is ∙ sym (ap found_or_missing (get_at hs p i h rise at))
+pub lookup_found : (hs : List (Box Record Global)) (p : List ℕ) (i : ℕ) (h : Box Record Global) → PointsRise hs → IsPlaceOf point_behind hs p i → h ≡ get_or hs i h → Found h.value.body ≡ reply_of (Lookup p) (set_behind hs)
+lookup_found hs p i h rise at is = ap (λ (x : Box Record Global). Found x.value.body) is ∙ sym (ap found_or_missing (get_at nat_list_cmp_total point_behind body_behind hs p i h rise at))
 
-pub lookup_missing : (hs : List (Box Record Global)) (p : List ℕ) (i : ℕ) → PointsRise hs → IsHandleGapFor hs p i → Missing ≡ reply_of (Lookup p) (set_behind hs)
-lookup_missing hs p i rise gap = sym (ap found_or_missing (get_gap hs p i rise gap))
+pub lookup_missing : (hs : List (Box Record Global)) (p : List ℕ) (i : ℕ) → PointsRise hs → IsGapFor point_cmp point_behind hs p i → Missing ≡ reply_of (Lookup p) (set_behind hs)
+lookup_missing hs p i rise gap = sym (ap found_or_missing (get_gap nat_list_cmp_total point_behind body_behind hs p i rise gap))
 
 -- a search
 pub search_done : (hs : List (Box Record Global)) (a : Area) (found : List Record) → PointsRise hs → found ≡ filter (λ r. holds a r.key) (records_behind hs) → Answers (set_behind hs) (Search a) (Within found) (set_behind hs)

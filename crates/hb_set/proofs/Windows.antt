@@ -14,9 +14,9 @@ use Rattle.std.proofs.lemmas.List.Elements.{filter-append, All-take, All-drop}
 use Rattle.hb_space.specs.Points.{point_cmp}
 use Rattle.hb_space.specs.Boxes.{Area, is_between, holds}
 use Rattle.hb_space.specs.declared.records.Record.{Record}
-use Rattle.hb_set.specs.Kept.{records_behind, entries_behind, PointsRise, AreSearchable}
-use Rattle.hb_set.proofs.Places.{rise_at, below_at}
+use Rattle.hb_set.specs.Kept.{records_behind, entries_behind, PointsRise, AreSearchable, point_behind, body_behind}
 use Rattle.hb_lemmas.proofs.Orderings.{less_so}
+use Rattle.hb_lemmas.proofs.SortedEntries.{rise_at, below_at}
 
 -- a point below the lower corner is not held
 pub outside_below : (lo hi p : List ℕ) → point_cmp p lo ≡ Less → is_between lo hi p ≡ false
@@ -50,14 +50,14 @@ first_values_rise (x ∷ xs) (y ∷ ys) h = by_ranked (x < y) (x ≡ y) (y < x) 
 -- the records below a corner stand before the others
 pub below_parts : (hs : List (Box Record Global)) (lo : List ℕ) → PointsRise hs → IsPartitionedBy (λ h. is_lt (point_cmp h.value.key lo)) hs
 below_parts hs lo r i j d le lt later = elim (cases_lt i j) [
-  | inl before ↦ ap is_lt (nat_list_cmp_total.trans (get_or hs i d).value.key (get_or hs j d).value.key lo (rise_at hs r i j d before lt) (less_so _ later))
+  | inl before ↦ ap is_lt (nat_list_cmp_total.trans (get_or hs i d).value.key (get_or hs j d).value.key lo (rise_at nat_list_cmp_total point_behind body_behind hs r i j d before lt) (less_so _ later))
   | inr after ↦ subst (λ k. is_lt (point_cmp (get_or hs k d).value.key lo) ≡ true) {x = j} (omega arith) later
 ]
 
 -- so do those whose first value is not above the greatest one
 pub reach_parts : (hs : List (Box Record Global)) (limit : ℕ) → PointsRise hs → IsPartitionedBy (λ h. leb (get_or h.value.key 0 0) limit) hs
 reach_parts hs limit r i j d le lt later = elim (cases_lt i j) [
-  | inl before ↦ le-leb _ _ (omega (arith, first_values_rise (get_or hs i d).value.key (get_or hs j d).value.key (rise_at hs r i j d before lt), leb-true _ _ later))
+  | inl before ↦ le-leb _ _ (omega (arith, first_values_rise (get_or hs i d).value.key (get_or hs j d).value.key (rise_at nat_list_cmp_total point_behind body_behind hs r i j d before lt), leb-true _ _ later))
   | inr after ↦ subst (λ k. leb (get_or (get_or hs k d).value.key 0 0) limit ≡ true) {x = j} (omega arith) later
 ]
 
@@ -190,7 +190,7 @@ searchable_drop k hs n are = record { rise = rise_drop hs n are.rise; attributes
 
 -- and the first point is below the others
 pub first_below : (hs later : List (Box Record Global)) (h : Box Record Global) → hs ≡ h ∷ later → PointsRise hs → All (λ x. point_cmp h.value.key x.value.key ≡ Less) later
-first_below hs later h is r k d lt = below_at h.value.key later k d (and_parts _ _ (subst PointsRise is r)).0 lt
+first_below hs later h is r k d lt = below_at nat_list_cmp_total point_behind body_behind h.value.key later k d (and_parts _ _ (subst PointsRise is r)).0 lt
 
 -- a record that the box holds goes from the rest to those that are held
 pub held_more : (a : Area) (held : List Record) (hs later : List (Box Record Global)) (h : Box Record Global) → hs ≡ h ∷ later → holds a h.value.key ≡ true

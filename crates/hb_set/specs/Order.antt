@@ -1,6 +1,6 @@
 -- Legal orders of answered lines.
 use Rattle.std.specs.Prelude.{◌≡◌, ◌≢◌, ℕ, ◌<◌, List, [], ◌∷◌, map}
-use Rattle.std.specs.List.{AllByRecursion}
+use Rattle.std.specs.List.{AllByRecursion, fold}
 use Rattle.hb_set.specs.declared.commands.Reply.{Reply}
 use Rattle.hb_set.specs.declared.commands.Reply.TheVariants.{Full, NoMemory, ReadFault}
 use Rattle.hb_set.specs.declared.scripts.Line.{Line}
@@ -19,8 +19,7 @@ AreReplies m (e ∷ es) = (e.reply ≡ reply_of e.line.command m) × AreReplies 
 
 -- what the machine leaves in the end
 abbrev pub result_of : RecordSet → List Entry → RecordSet
-result_of m [] = m
-result_of m (e ∷ es) = result_of (set_after e.line.command m) es
+result_of m entries = fold (λ n entry. set_after entry.line.command n) m entries
 
 -- its lines, and their numbers
 abbrev pub order_lines : List Entry → List Line

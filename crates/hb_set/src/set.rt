@@ -1,7 +1,9 @@
 ghost use Rattle.std.specs.Prelude.{◌≡◌, ◌≢◌, ◌==◌, ℕ, length, None, IfOk, IfErr};
 ghost use Rattle.std.specs.FinMap as map;
 ghost use Rattle.hb_set.specs.Machine.{Answers, HasAttributes, MayWantMemory, attributes, reply_of};
-ghost use Rattle.hb_set.specs.Kept.{PointsRise, IsHandleAt, IsHandleGapFor};
+ghost use Rattle.hb_lemmas.specs.Places.{IsGapFor, IsPlaceOf};
+ghost use Rattle.hb_space.specs.Points.{point_cmp};
+ghost use Rattle.hb_set.specs.Kept.{PointsRise, point_behind};
 
 use crate::search::held_by;
 use crate::{Command, Reply};
@@ -132,8 +134,8 @@ impl Set {
 // Where the point is, or where it would go.
 fn place_of(records: &[Box<Record>], point: &Point) -> Result<usize, usize>
     requires { PointsRise records.now }
-    ensures found { IfOk result (IsHandleAt records.now point.now) }
-    ensures absent { IfErr result (IsHandleGapFor records.now point.now) }
+    ensures found { IfOk result (IsPlaceOf point_behind records.now point.now) }
+    ensures absent { IfErr result (IsGapFor point_cmp point_behind records.now point.now) }
 {
     records.binary_search_by(|handle| handle.key.cmp(point))
 }

@@ -2,7 +2,7 @@
 use Rattle.std.proofs.Common.{◌≡◌, ◌≢◌, ℕ, ◌+◌, ◌<◌, ◌⊎◌, max, inl, inr, List, length, Some, refl, sym, ap, ◌∙◌, arith}
 use Rattle.std.specs.List.{Contains}
 use Rattle.std.proofs.lemmas.Bool.{cases_eq}
-use Rattle.hb_space.specs.Boxes.{Area}
+use Rattle.hb_space.specs.Boxes.{Area, volume}
 use Rattle.hb_frag.specs.declared.leaves.Leaf.TheVariants.{Child, Sibling}
 use Rattle.hb_frag.specs.declared.pages.LivePage.{LivePage}
 use Rattle.hb_frag.specs.declared.pages.Page.{Page}
@@ -18,18 +18,17 @@ use Rattle.hb_ops.specs.Allocating.{Allocates, allocated}
 use Rattle.hb_sound.proofs.CutNames.{once}
 use Rattle.hb_ops.proofs.Facts.PageLists.{HasInstead, none_behind, put_behind, put_instead}
 use Rattle.hb_ops.proofs.Facts.PageNumberLaws.{live_so}
-use Rattle.hb_sound.proofs.Facts.PagesParted.{fresh_narrower, names_parted, stems_child, stems_sibling}
+use Rattle.hb_sound.proofs.Facts.PagesParted.{fresh_smaller, names_parted, stems_child, stems_sibling}
 use Rattle.hb_ops.proofs.Facts.PartedPageLaws.{fresh_made, source_made}
 use Rattle.hb_ops.proofs.Facts.StemLaws.{fresh_stems, source_stems, PartLaws}
 use Rattle.hb_ops.proofs.Facts.PlacedLaws.{leaf_is_sibling, placed, sibling_is_leaf}
-use Rattle.hb_sound.proofs.Widths.{width}
 
 -- what the page that is split and the page that is made have of the page before; the one names the other
 pub record ArePartsOf (meta : Meta) (name : ℕ) (page source fresh : LivePage) : Type 0 where
   pub level : source.level ≡ page.level
   pub area : source.area ≡ page.area
   pub fresh_level : fresh.level ≡ page.level
-  pub narrower : width fresh.area < width page.area
+  pub smaller : volume fresh.area < volume page.area
   pub siblings : (n : ℕ) (a : Area) → Contains (siblings_of source) (n, a) → ((n ≡ name) × (a ≡ fresh.area)) ⊎ Contains (siblings_of page) (n, a)
   pub children : (n : ℕ) (a : Area) → Contains (leaves_of source.frag source.area) (placed (Child n) a) → Contains (leaves_of page.frag page.area) (placed (Child n) a)
   pub fresh_siblings : (n : ℕ) (a : Area) → Contains (siblings_of fresh) (n, a) → Contains (siblings_of page) (n, a)
@@ -53,7 +52,7 @@ parts_of laws meta x page part made fits =
       level = refl;
       area = refl;
       fresh_level = refl;
-      narrower = fresh_narrower laws x page part made.well_cut fits;
+      smaller = fresh_smaller laws x page part made.well_cut fits;
       siblings = λ n a has. elim (source_stems laws x.fresh x.path x.cuts page part fits (placed (Sibling n) a) (sibling_is_leaf (leaves_of source.frag source.area) n a has)) [
         | inl is ↦ inl (names_same x.fresh n fresh.area a is)
         | inr stems ↦ inr (leaf_is_sibling old n a (stems_sibling old n a stems))

@@ -47,11 +47,6 @@ pass_first p n None is off = λ m le at. elim (cases_lt n m) [
 ]
 pass_first p n (Some first) is off = is
 
--- none before the first number
-pub none_yet : (q : Fact → Type 0) (facts : List Fact) → IsFirstUpTo (SeesSome q facts) 0 None
-none_yet q facts zero le sees = absurd (let never : None ≡ Some sees.0 = sees.1 in cc)
-none_yet q facts (suc n) le sees = absurd (omega (arith, le))
-
 -- what is seen behind a place
 pub seen_here : (q : Fact → Type 0) (facts : List Fact) (place : ℕ) (fact : Fact) → slice_get facts place ≡ Some fact → q fact → SeesSome q facts (place + 1)
 seen_here q facts place fact e holds = (fact, item_behind facts place ∙ e, holds)
@@ -63,17 +58,14 @@ seen_there q facts place fact e sees =
     subst q is sees.2
 
 -- the three ends of a loop that tests the facts one by one
-read_here : (facts : List Fact) (place : ℕ) (fact : Fact) → place < length facts → fact ≡ get_or facts place fact → slice_get facts place ≡ Some fact
-read_here facts place fact within is = slice_get_read facts (length facts) place fact refl within is
-
 pub found_here : (q : Fact → Type 0) (facts : List Fact) (place : ℕ) (fact : Fact) → place < length facts → fact ≡ get_or facts place fact
     → IsFirstUpTo (SeesSome q facts) place None → q fact → IsLeast (SeesSome q facts) (place + 1)
-found_here q facts place fact within is none holds = found (SeesSome q facts) place none (seen_here q facts place fact (read_here facts place fact within is) holds)
+found_here q facts place fact within is none holds = found (SeesSome q facts) place none (seen_here q facts place fact (slice_get_read facts (length facts) place fact refl within is) holds)
 
 pub still_none : (q : Fact → Type 0) (facts : List Fact) (place : ℕ) (fact : Fact) → place < length facts → fact ≡ get_or facts place fact
     → IsFirstUpTo (SeesSome q facts) place None → ¬ (q fact) → IsFirstUpTo (SeesSome q facts) (place + 1) None
 still_none q facts place fact within is none fails =
-    pass_first (SeesSome q facts) place None none (λ sees. fails (seen_there q facts place fact (read_here facts place fact within is) sees))
+    pass_first (SeesSome q facts) place None none (λ sees. fails (seen_there q facts place fact (slice_get_read facts (length facts) place fact refl within is) sees))
 
 pub none_left : (q : Fact → Type 0) (facts : List Fact) (n : ℕ) → length facts ≤ n → IsFirstUpTo (SeesSome q facts) n None → (id : ℕ) → ¬ (SeesSome q facts id)
 none_left q facts n all none id sees =

@@ -1,8 +1,8 @@
--- The walk of sibling leaves for a point leads to a page of the level that directly holds it, since the boxes get less wide.
+-- The walk of sibling leaves for a point leads to a page of the level that directly holds it, since the boxes get smaller.
 use Rattle.std.proofs.Common.{◌≡◌, ℕ, zero, suc, ◌<◌, inr, List, [], ◌∷◌, get_or, Option, Some, None, IsSome, refl, sym, ap, subst, ◌∙◌, arith}
 use Rattle.std.specs.List.{Contains}
 use Rattle.std.proofs.lemmas.List.Elements.{Contains-get_or}
-use Rattle.hb_space.specs.Boxes.{Area, IsArea, Holds, whole_area}
+use Rattle.hb_space.specs.Boxes.{Area, IsArea, Holds, whole_area, volume}
 use Rattle.hb_frag.specs.declared.leaves.Leaf.{Leaf}
 use Rattle.hb_frag.specs.declared.leaves.Leaf.TheVariants.{Records, Child, Sibling}
 use Rattle.hb_frag.specs.declared.pages.LivePage.{LivePage}
@@ -11,9 +11,8 @@ use Rattle.hb_ops.specs.Files.{FileState, live_page}
 use Rattle.hb_ops.specs.Sound.{AreWellMade, IsCovered, SiblingsMatch}
 use Rattle.hb_sound.specs.Laws.{TreeLaws}
 use Rattle.hb_sound.specs.PointWalks.{HasOn, IsWalk}
-use Rattle.hb_sound.proofs.Facts.OneLevel.{narrower, page_area, sibling_there}
+use Rattle.hb_sound.proofs.Facts.OneLevel.{smaller, page_area, sibling_there}
 use Rattle.hb_ops.proofs.Facts.PlacedLaws.{leaf_is_sibling, placed}
-use Rattle.hb_sound.proofs.Widths.{width}
 use Rattle.hb_sound.specs.LawsOfOperations.{HasDirectly}
 use Rattle.hb_lemmas.proofs.Options.{one_value}
 
@@ -60,22 +59,22 @@ module _ (laws : TreeLaws) (s : FileState) (made : AreWellMade s) (match : Sibli
   stays : (level id : ℕ) (page : LivePage) → live_page s id ≡ Some page → page.level ≡ level → DirectlyHolds page p → WalksOn s level p id
   stays level id page live on direct = record { rest = []; last = id; walk = refl; has = record { page = page; live = live; on = on; direct = direct } }
 
-  -- what holds of each less wide page of the level that has the point
-  abbrev Narrower : ℕ → ℕ → Type 0
-  Narrower n level = (id : ℕ) (page : LivePage) → live_page s id ≡ Some page → page.level ≡ level → Holds page.area p → width page.area < n → WalksOn s level p id
+  -- what holds of each smaller page of the level that has the point
+  abbrev Smaller : ℕ → ℕ → Type 0
+  Smaller n level = (id : ℕ) (page : LivePage) → live_page s id ≡ Some page → page.level ≡ level → Holds page.area p → volume page.area < n → WalksOn s level p id
 
-  goes : (n level id : ℕ) (page : LivePage) (leaf : Leaf) (b : Area) → Narrower n level → live_page s id ≡ Some page → page.level ≡ level → Holds page.area p → width page.area < suc n → leaf_at page p ≡ Some (placed leaf b) → WalksOn s level p id
+  goes : (n level id : ℕ) (page : LivePage) (leaf : Leaf) (b : Area) → Smaller n level → live_page s id ≡ Some page → page.level ≡ level → Holds page.area p → volume page.area < suc n → leaf_at page p ≡ Some (placed leaf b) → WalksOn s level p id
   goes n level id page (Records records) b again live on held lt e = stays level id page live on (holds_directly id page (Records records) b live held e (λ name f. let no : ⊥ = cc in no))
   goes n level id page (Child name) b again live on held lt e = stays level id page live on (holds_directly id page (Child name) b live held e (λ other f. let no : ⊥ = cc in no))
   goes n level id page (Sibling name) b again live on held lt e =
       let there = leaf_there id page (Sibling name) b live e in
       let has = leaf_is_sibling (leaves_of page.frag page.area) name b there.0 in
       let m = match id page name b live has in
-      let less = narrower laws s made match covered id page name b live has in
-      let same = ap width m.3 in
+      let less = smaller laws s made match covered id page name b live has in
+      let same = ap volume m.3 in
       let w = again name m.0 m.1 (m.2 ∙ on) (subst (λ (a : Area). Holds a p) (sym m.3) there.1) (omega (arith, less, same)) in
       record { rest = name ∷ w.rest; last = w.last; walk = (inr (record { page = page; area = b; live = live; there = e }), w.walk); has = w.has }
 
-  pub found : (n level : ℕ) → Narrower n level
+  pub found : (n level : ℕ) → Smaller n level
   found zero level id page live on held lt = absurd (omega arith)
   found (suc n) level id page live on held lt = let l = some_leaf id page live held in goes n level id page l.0 l.1 (found n level) live on held lt l.2

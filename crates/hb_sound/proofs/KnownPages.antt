@@ -1,5 +1,5 @@
 -- What is known of the pages that were read stays known while more of them are read.
-use Rattle.std.proofs.Common.{◌≡◌, ◌⊎◌, inl, inr, ℕ, zero, suc, ◌+◌, List, [], ◌∷◌, ◌++◌, length, Option, Some, None, IfSome, refl, sym, ap, ◌∙◌, subst, arith}
+use Rattle.std.proofs.Common.{◌≡◌, ◌⊎◌, inl, inr, ℕ, zero, suc, ◌+◌, List, [], ◌∷◌, ◌++◌, length, Option, Some, None, refl, sym, ap, ◌∙◌, subst, arith}
 use Rattle.std.proofs.lemmas.List.Elements.{All-weaker}
 use Rattle.hb_space.specs.Boxes.{Area}
 use Rattle.hb_frag.specs.declared.leaves.Leaf.{Leaf}
@@ -15,7 +15,7 @@ use Rattle.hb_sound.specs.declared.rests.Rest.{Rest}
 use Rattle.hb_sound.specs.declared.rests.Rest.TheVariants.{Nothing, Lone, More}
 use Rattle.hb_sound.specs.Facts.{FindsBelow, if_seen, seen_at}
 use Rattle.hb_sound.specs.Links.{IsRestOf, Knows, KnowsTold}
-use Rattle.hb_sound.specs.Told.{GivesPage, item_at}
+use Rattle.hb_sound.specs.Told.{item_at}
 use Rattle.hb_lemmas.proofs.Lists.{get-push_cases, get-longer}
 
 -- an item of a list stays where it is when one more comes
@@ -57,11 +57,6 @@ module _ (facts : List Fact) (x : Fact) where
   knows_later (Free next) (pages.Live page) knows = absurd knows
   knows_later (Free next) (pages.Free other) knows = tt
 
--- none is known yet
-pub knows_none : (told : List (Option Page)) → KnowsTold [] told
-knows_none told zero fact page at there = let never : None ≡ Some fact = at in cc
-knows_none told (suc n) fact page at there = let never : None ≡ Some fact = at in cc
-
 -- one more is
 pub knows_more : (facts : List Fact) (told : List (Option Page)) (n : ℕ) (fact : Fact) → length facts ≡ n → KnowsTold facts told
     → ((page : Page) → item_at told (n + 1) ≡ Some (Some page) → Knows facts fact page) → KnowsTold (facts ++ fact ∷ []) told
@@ -73,13 +68,3 @@ knows_more facts told n fact count known is id own page at there = elim (item_en
       let here : item_at told (n + 1) ≡ Some (Some page) = ap (λ (m : ℕ). item_at told m) (sym e) ∙ there in
       subst Q last.1 (knows_later facts fact fact page (is page here))
 ]
-
--- what is known of the page that was read is known of the told one
-pub told_knows : (o : Option (List (Option Page))) (id : ℕ) (facts : List Fact) (fact : Fact) (page : Page) → GivesPage o id (Some page) → Knows facts fact page
-    → IfSome o (λ told. (p : Page) → item_at told id ≡ Some (Some p) → Knows facts fact p)
-told_knows None id facts fact page gives knows = tt
-told_knows (Some told) id facts fact page gives knows = λ p e.
-    let same : Some page ≡ Some p = gives (Some p) e in
-    let it : page ≡ p = cc in
-    let Q : Page → Type 0 = λ x. Knows facts fact x in
-    subst Q it knows

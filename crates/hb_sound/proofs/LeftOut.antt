@@ -9,6 +9,7 @@ use Rattle.hb_sound.specs.Links.{IsFirstUpTo}
 use Rattle.hb_sound.specs.Told.{item_at}
 use Rattle.hb_sound.specs.Walks.{IsLeast, IsLeftOut, IsChainWalk}
 use Rattle.hb_sound.proofs.Firsts.{found, item_got, item_read, item_within, pass_first}
+use Rattle.std.proofs.lemmas.Bool.{true_from_ne_false}
 
 free_next : (fact : Fact) → IsFreeFact fact → (n : ℕ) × (if_next (Some fact) ≡ Some n)
 free_next (Live seen) free = absurd free
@@ -21,10 +22,6 @@ next_free (Free next) n e = tt
 has_fact : (o : Option Fact) (n : ℕ) → if_next o ≡ Some n → (fact : Fact) × (o ≡ Some fact)
 has_fact None n e = let never : None ≡ Some n = e in cc
 has_fact (Some fact) n e = (fact, refl)
-
-by_flag : (b : Bool) → ¬ (b ≡ false) → b ≡ true
-by_flag true off = refl
-by_flag false off = absurd (off refl)
 
 module _ (facts : List Fact) (flags : List Bool) (chain : List ℕ) (place : ℕ) (fact : Fact) (d : Bool)
     (within : place < length facts) (is : fact ≡ get_or facts place fact) (same : length flags ≡ length facts) (chained : IsChained chain flags) where
@@ -40,7 +37,7 @@ module _ (facts : List Fact) (flags : List Bool) (chain : List ℕ) (place : ℕ
   left_there out = next_free fact out.0.0 (sym (ap if_next here) ∙ out.0.1)
 
   unflagged_there : IsLeftOut (next_at facts) chain (place + 1) → (get_or flags place d ≡ false → ⊥) → ⊥
-  unflagged_there out on = out.1 ((chained (place + 1)).1 (item_got flags place d (omega (arith, within, same)) ∙ ap (λ (b : Bool). Some b) (by_flag (get_or flags place d) on)))
+  unflagged_there out on = out.1 ((chained (place + 1)).1 (item_got flags place d (omega (arith, within, same)) ∙ ap (λ (b : Bool). Some b) (true_from_ne_false (get_or flags place d) on)))
 
   pub left_found : IsFirstUpTo (IsLeftOut (next_at facts) chain) place None → IsFreeFact fact × (get_or flags place d ≡ false) → IsLeast (IsLeftOut (next_at facts) chain) (place + 1)
   left_found none free = found (IsLeftOut (next_at facts) chain) place none (left_here free)

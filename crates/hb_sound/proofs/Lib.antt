@@ -1,7 +1,6 @@
 pub mod Facts
 pub mod Asking
 pub mod SiblingLeaves
-pub mod Widths
 pub mod HeldOnce
 pub mod HeldSomewhere
 pub mod WalksDown
@@ -19,7 +18,7 @@ pub mod LatePosting
 pub mod TowerFile
 pub mod Extractions
 pub mod Growths
-pub mod CutWidths
+pub mod CutVolumes
 pub mod CutNames
 pub mod FileParted
 pub mod SplitChains

@@ -143,9 +143,6 @@ module _ (trees : TreeLaws) (laws : MergeLaws) (gone : ℕ) (kept going : LivePa
     opened_cut : IsWellCut opened kept.area
     opened_cut = well_cut_again has_way.way kept.frag kept.area (Tip (Sibling gone), going.area) going.frag has_way.part kept_cut going_cut
 
-    pub new_cut : IsWellCut new.frag new.area
-    new_cut = (laws.same opened).cuts kept.area opened_cut
-
     -- at each point of a child leaf one of the two pages named the child
     pub child_from : (name : ℕ) (a : Area) (p : List ℕ) → Contains (leaves_of new.frag new.area) (placed (Child name) a) → Holds a p → NamesChild kept name p ⊎ NamesChild going name p
     child_from name a p has held =

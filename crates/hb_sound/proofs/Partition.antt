@@ -1,6 +1,6 @@
 -- The laws of a sound file, from those of trees and of the space.
 use Rattle.std.proofs.Common.{◌≡◌, ℕ, ◌+◌, ◌<◌, List, Some, refl, sym, ap, subst, ◌∙◌, arith}
-use Rattle.hb_space.specs.Boxes.{Area, IsArea, Holds, whole_area}
+use Rattle.hb_space.specs.Boxes.{Area, IsArea, Holds, whole_area, volume}
 use Rattle.hb_space.specs.declared.records.Record.{Record}
 use Rattle.hb_frag.specs.declared.leaves.Leaf.TheVariants.{Records}
 use Rattle.hb_frag.specs.declared.pages.LivePage.{LivePage}
@@ -20,7 +20,6 @@ use Rattle.hb_sound.proofs.WalkSteps.{step_leads}
 use Rattle.hb_ops.proofs.Facts.PlacedLaws.{placed}
 use Rattle.hb_sound.proofs.HeldSomewhere.{found}
 use Rattle.hb_sound.proofs.Facts.OneLevel.{page_area}
-use Rattle.hb_sound.proofs.Widths.{width}
 use Rattle.hb_ops.proofs.Facts.Contents.{del_on, put_on}
 use Rattle.hb_lemmas.proofs.Options.{one_value}
 
@@ -34,7 +33,7 @@ module _ (trees : TreeLaws) (space : SpaceLaws) where
   pub each_point_is_held : EachPointIsHeld
   each_point_is_held s level p sound h lt =
       let first = sound.covered.first level lt in
-      let w = found trees s sound.well_made sound.siblings sound.covered (whole_is_area s p h) p (width first.1.area + 1) level first.0 first.1 first.2 first.3 (whole_holds s p first.1.area h first.4) (omega arith) in
+      let w = found trees s sound.well_made sound.siblings sound.covered (whole_is_area s p h) p (volume first.1.area + 1) level first.0 first.1 first.2 first.3 (whole_holds s p first.1.area h first.4) (omega arith) in
       (w.last, w.has)
 
   pub no_point_is_held_twice : NoPointIsHeldTwice

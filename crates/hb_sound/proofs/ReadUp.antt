@@ -1,5 +1,5 @@
 -- Reading the pages one by one, where they are told.
-use Rattle.std.proofs.Common.{◌≡◌, ◌⊎◌, inl, inr, ℕ, zero, suc, ◌+◌, ◌<◌, ◌≤◌, List, [], ◌∷◌, ◌++◌, length, take, Option, Some, None, IfSome, slice_get, refl, sym, ap, ◌∙◌, subst, arith}
+use Rattle.std.proofs.Common.{◌≡◌, inl, inr, ℕ, zero, suc, ◌+◌, ◌≤◌, List, [], ◌∷◌, ◌++◌, length, take, Option, Some, None, IfSome, slice_get, refl, sym, ap, ◌∙◌, subst, arith}
 use Rattle.std.proofs.lemmas.Bool.{cases_lt}
 use Rattle.hb_lemmas.proofs.Lists.{place_within}
 use Rattle.hb_frag.specs.declared.pages.Page.{Page}
@@ -7,10 +7,9 @@ use Rattle.hb_layout.specs.declared.meta.Meta.{Meta}
 use Rattle.hb_sound.specs.declared.page_facts.Fact.{Fact}
 use Rattle.hb_sound.specs.Facts.{AreFactsOf, IsFactOf}
 use Rattle.hb_sound.specs.Links.{Knows, KnowsTold}
-use Rattle.hb_sound.specs.Told.{CoversFile, IsHole, IsWholeFile, file_of, item_at, shown_pages}
-use Rattle.hb_sound.specs.Walks.{IsLeast}
+use Rattle.hb_sound.specs.Told.{CoversFile, IsHole, item_at, shown_pages}
 use Rattle.hb_sound.proofs.Firsts.{item_behind}
-use Rattle.hb_sound.proofs.KnownPages.{knows_more, knows_none}
+use Rattle.hb_sound.proofs.KnownPages.{knows_more}
 
 -- no hole so far, and these are the facts of the pages so far
 pub record IsReadTo (meta : Meta) (told : List (Option Page)) (n : ℕ) (facts : List Fact) : Type 0 where
@@ -36,14 +35,6 @@ facts_more meta [] [] fact page are is = (is, tt)
 facts_more meta [] (other ∷ pages) fact page are is = absurd are
 facts_more meta (own ∷ facts) [] fact page are is = absurd are
 facts_more meta (own ∷ facts) (other ∷ pages) fact page are is = (are.0, facts_more meta facts pages fact page are.1 is)
-
--- nothing is read yet
-pub read_none : (meta : Meta) (told : List (Option Page)) → IsReadTo meta told 0 []
-read_none meta told = record {
-  whole = λ id le hole. let some = hole.0 in absurd (omega (arith, le, some));
-  facts_are = tt;
-  known = knows_none told;
-}
 
 -- one more page is there
 pub read_more : (meta : Meta) (told : List (Option Page)) (n : ℕ) (facts : List Fact) (fact : Fact) → CoversFile meta told → IsReadTo meta told n facts → length facts ≡ n → n + 1 ≤ meta.pages
@@ -77,45 +68,10 @@ read_more meta told n facts fact covers read count within is there knows =
     not_hole : IsHole meta told (n + 1) → ⊥
     not_hole hole = elim hole.2 [ inl beyond ↦ omega (arith, beyond, within) | inr none ↦ there none ]
 
--- all pages are read
-pub read_whole : (meta : Meta) (told : List (Option Page)) (n : ℕ) (facts : List Fact) → n ≡ meta.high → IsReadTo meta told n facts
-    → IsWholeFile meta told × AreFactsOf meta facts (file_of meta told).pages × KnowsTold facts told
-read_whole meta told n facts all read = (
-  λ id hole. let few = hole.1 in read.whole id (omega (arith, few, all)) hole,
-  (let Q : ℕ → Type 0 = λ m. AreFactsOf meta facts (shown_pages (take m told)) in subst Q all read.facts_are),
-  read.known,
-)
-
--- the first hole
-pub first_hole : (meta : Meta) (told : List (Option Page)) (n : ℕ) (facts : List Fact) → CoversFile meta told → IsReadTo meta told n facts → n + 1 ≤ meta.high
-    → (meta.pages < n + 1) ⊎ (n + 1 ≤ length told → item_at told (n + 1) ≡ Some None) → IsLeast (IsHole meta told) (n + 1)
-first_hole meta told n facts covers read within broken = record {
-  here = (omega arith, within, is_hole broken);
-  least = λ m hole. elim (cases_lt n m) [ inl lt ↦ omega (arith, lt) | inr before ↦ absurd (read.whole m before hole) ];
-}
-  where
-    is_hole : (meta.pages < n + 1) ⊎ (n + 1 ≤ length told → item_at told (n + 1) ≡ Some None) → (meta.pages < n + 1) ⊎ (item_at told (n + 1) ≡ Some None)
-    is_hole (inl beyond) = inl beyond
-    is_hole (inr none) = elim (cases_lt meta.pages (n + 1)) [ inl beyond ↦ inl beyond | inr at_most ↦ inr (none (omega (arith, covers, at_most))) ]
-
 -- the same where nothing may be told
-pub if_none : (o : Option (List (Option Page))) (meta : Meta) → IfSome o (λ told. IsReadTo meta told 0 [])
-if_none None meta = tt
-if_none (Some told) meta = read_none meta told
-
 pub if_more : (o : Option (List (Option Page))) (meta : Meta) (n : ℕ) (facts : List Fact) (fact : Fact) → IfSome o (CoversFile meta) → IfSome o (λ told. IsReadTo meta told n facts) → length facts ≡ n → n + 1 ≤ meta.pages
     → IfSome o (λ told. (page : Page) → item_at told (n + 1) ≡ Some (Some page) → IsFactOf meta fact page) → IfSome o (λ told. item_at told (n + 1) ≡ Some None → ⊥)
     → IfSome o (λ told. (page : Page) → item_at told (n + 1) ≡ Some (Some page) → Knows facts fact page)
     → IfSome o (λ told. IsReadTo meta told (n + 1) (facts ++ fact ∷ []))
 if_more None meta n facts fact covers read count within is there knows = tt
 if_more (Some told) meta n facts fact covers read count within is there knows = read_more meta told n facts fact covers read count within is there knows
-
-pub if_whole : (o : Option (List (Option Page))) (meta : Meta) (n : ℕ) (facts : List Fact) → n ≡ meta.high → IfSome o (λ told. IsReadTo meta told n facts)
-    → IfSome o (λ told. IsWholeFile meta told × AreFactsOf meta facts (file_of meta told).pages × KnowsTold facts told)
-if_whole None meta n facts all read = tt
-if_whole (Some told) meta n facts all read = read_whole meta told n facts all read
-
-pub if_hole : (o : Option (List (Option Page))) (meta : Meta) (n : ℕ) (facts : List Fact) → IfSome o (CoversFile meta) → IfSome o (λ told. IsReadTo meta told n facts) → n + 1 ≤ meta.high
-    → IfSome o (λ told. (meta.pages < n + 1) ⊎ (n + 1 ≤ length told → item_at told (n + 1) ≡ Some None)) → IfSome o (λ told. IsLeast (IsHole meta told) (n + 1))
-if_hole None meta n facts covers read within broken = tt
-if_hole (Some told) meta n facts covers read within broken = first_hole meta told n facts covers read within broken

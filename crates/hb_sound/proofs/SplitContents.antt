@@ -3,7 +3,7 @@ use Rattle.std.proofs.Common.{◌≡◌, ℕ, ◌<◌, ◌≤◌, inl, inr, List
 use Rattle.std.specs.FinMap as finite
 use Rattle.std.proofs.lemmas.Bool.{cases_eq}
 use Rattle.std.proofs.lemmas.Cmp.{nat_list_cmp_total}
-use Rattle.hb_space.specs.Boxes.{Area, IsArea, Holds}
+use Rattle.hb_space.specs.Boxes.{Area, IsArea, Holds, volume, volume_between}
 use Rattle.hb_space.specs.Points.{IsPoint}
 use Rattle.hb_space.specs.declared.form.TheConstants.{KMAX}
 use Rattle.hb_space.specs.declared.records.Record.{Record}
@@ -25,10 +25,10 @@ use Rattle.hb_sound.proofs.Facts.RecordsParted.{AmongLeaves, ShareRecords, share
 use Rattle.hb_sound.proofs.RecordsStand.{HasRecord, contents_stand, stands_at}
 use Rattle.std.proofs.lemmas.Option.{same_Some}
 use Rattle.hb_sound.proofs.SplitSound.{comes_from, split_sound}
-use Rattle.hb_sound.proofs.Widths.{width, width_between}
 use Rattle.hb_sound.proofs.Facts.PagePlaces.{not_vacant}
 use Rattle.hb_space.proofs.Facts.PointOrder.{exact_points}
 use Rattle.hb_lemmas.proofs.Options.{same_options}
+use Rattle.hb_ops.proofs.Facts.Volumes.{some_points}
 
 -- a record of a leaf of a page is one of the file
 pub in_file : (s : FileState) (id : ℕ) (page : LivePage) (r : Record) → live_page s id ≡ Some page → page.level ≡ 0 → AmongLeaves (leaves_of page.frag page.area) r → HasRecord s r
@@ -64,16 +64,16 @@ module _ (s : FileState) (x : Extraction) (pages : List Page) (page source fresh
     | inr was ↦ in_file s h.id h.page r was h.level (among_of after r h)
   ]
 
--- a box that is wider than something has an attribute, and so has a file with a page that is split
-wide_has_some : (a : Area) (n : ℕ) → n < width a → 1 ≤ length a.lo
-wide_has_some a n lt = some_of a.lo a.hi n lt
+-- a box that holds more points than another has an attribute, and so has a file with a page that is split
+larger_has_some : (a b : Area) → volume b < volume a → 1 ≤ length a.lo
+larger_has_some a b lt = some_of a.lo a.hi (volume b) (some_points b.lo b.hi) lt
   where
-    some_of : (lo hi : List ℕ) (n : ℕ) → n < width_between lo hi → 1 ≤ length lo
-    some_of [] hi n lt = absurd (omega arith)
-    some_of (l ∷ lo) hi n lt = omega arith
+    some_of : (lo hi : List ℕ) (n : ℕ) → 0 < n → n < volume_between lo hi → 1 ≤ length lo
+    some_of [] hi n some lt = absurd (omega (arith, some, lt))
+    some_of (l ∷ lo) hi n some lt = omega arith
 
 has_attributes : (s : FileState) (x : Extraction) (page source fresh : LivePage) → FitsFile s.meta page → ArePartsOf s.meta x.fresh page source fresh → 1 ≤ s.meta.k
-has_attributes s x page source fresh made parts = let some = wide_has_some page.area (width fresh.area) parts.narrower in let k = made.fits.attributes in omega (arith, some, k)
+has_attributes s x page source fresh made parts = let some = larger_has_some page.area fresh.area parts.smaller in let k = made.fits.attributes in omega (arith, some, k)
 
 -- two sound files with the same records have the same contents
 module _ (trees : TreeLaws) (space : SpaceLaws) (points : (a : Area) (p : List ℕ) → IsArea a → Holds a p → IsPoint p) (standing : RecordsAreContents) where

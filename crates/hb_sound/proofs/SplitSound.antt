@@ -2,7 +2,7 @@
 use Rattle.std.proofs.Common.{◌≡◌, ◌≢◌, ℕ, suc, ◌+◌, ◌≤◌, ◌⊎◌, inl, inr, Bool, cond, List, Some, refl, sym, ap, subst, ◌∙◌, arith, eq-eqb, ne_eqb}
 use Rattle.std.specs.List.{Contains}
 use Rattle.std.proofs.lemmas.Bool.{cases_eq, cases_lt}
-use Rattle.hb_space.specs.Boxes.{Area, Within, whole_area}
+use Rattle.hb_space.specs.Boxes.{Area, Within, whole_area, volume}
 use Rattle.hb_frag.specs.declared.leaves.Leaf.TheVariants.{Child}
 use Rattle.hb_frag.specs.declared.pages.LivePage.{LivePage}
 use Rattle.hb_frag.specs.declared.pages.Page.{Page}
@@ -23,13 +23,12 @@ use Rattle.hb_sound.proofs.SiblingLeaves.{named_among}
 use Rattle.hb_ops.proofs.Facts.PlacedLaws.{placed}
 use Rattle.hb_sound.proofs.SplitChains.{counted_again, rooted_again, stays_live}
 use Rattle.std.proofs.lemmas.Option.{same_Some}
-use Rattle.hb_sound.proofs.Widths.{width}
 
--- no box is wider than the whole space
-no_wider : TreeLaws → (s : FileState) → AreWellMade s → SiblingsMatch s → IsCovered s → (id : ℕ) (page : LivePage) → live_page s id ≡ Some page → width page.area ≤ width (whole_area s.meta.k)
-no_wider laws s made match covered = spread laws s made match covered (λ id page. width page.area ≤ width (whole_area s.meta.k)) (record {
-  begins = λ id page live is. let e = ap width is in omega (arith, e);
-  goes_on = λ id page w live before. let le : width w.namer.area ≤ width (whole_area s.meta.k) = before in let less = w.wider in omega (arith, le, less);
+-- no box is larger than the whole space
+no_larger : TreeLaws → (s : FileState) → AreWellMade s → SiblingsMatch s → IsCovered s → (id : ℕ) (page : LivePage) → live_page s id ≡ Some page → volume page.area ≤ volume (whole_area s.meta.k)
+no_larger laws s made match covered = spread laws s made match covered (λ id page. volume page.area ≤ volume (whole_area s.meta.k)) (record {
+  begins = λ id page live is. let e = ap volume is in omega (arith, e);
+  goes_on = λ id page w live before. let le : volume w.namer.area ≤ volume (whole_area s.meta.k) = before in let less = w.larger in omega (arith, le, less);
 })
 
 -- no sibling leaf names a page that isn't in use
@@ -148,13 +147,13 @@ module _ (s : FileState) (x : Extraction) (pages : List Page) (page source fresh
       let all = times_again x.fresh in
       omega (arith, one, none, all)
 
-  module _ (bound : (id : ℕ) (q : LivePage) → live_page s id ≡ Some q → width q.area ≤ width (whole_area s.meta.k)) where
+  module _ (bound : (id : ℕ) (q : LivePage) → live_page s id ≡ Some q → volume q.area ≤ volume (whole_area s.meta.k)) where
     -- the new page hasn't the whole space
     fresh_is_part : (new : LivePage) → new ≡ fresh → new.area ≡ whole_area s.meta.k → ⊥
     fresh_is_part new is whole =
-        let same : width fresh.area ≡ width (whole_area s.meta.k) = ap (λ (q : LivePage). width q.area) (sym is) ∙ ap width whole in
+        let same : volume fresh.area ≡ volume (whole_area s.meta.k) = ap (λ (q : LivePage). volume q.area) (sym is) ∙ ap volume whole in
         let most = bound x.source page parted.live in
-        let less = parts.narrower in
+        let less = parts.smaller in
         absurd (omega (arith, same, most, less))
 
     alone_again : IsCovered s → (id other : ℕ) (new same : LivePage) → live_page after id ≡ Some new → live_page after other ≡ Some same → new.level ≡ same.level → new.area ≡ whole_area s.meta.k → same.area ≡ whole_area s.meta.k → id ≡ other
@@ -201,7 +200,7 @@ split_sound trees laws s x sound may licensed =
     let parted = is_parted s x may.page source fresh sound.rooted.numbered may.allocates licensed may.live in
     let pages = (parted_file s x may.page source fresh sound.rooted.numbered may.allocates licensed may.live).pages in
     subst IsSound (sym (extracted_so s x may.page may.part may.live may.fits))
-    (sound_again s x pages may.page source fresh may.allocates parted parts (no_wider trees s sound.well_made sound.siblings sound.covered) licensed sound)
+    (sound_again s x pages may.page source fresh may.allocates parted parts (no_larger trees s sound.well_made sound.siblings sound.covered) licensed sound)
 
 pub splits_keep_sound : TreeLaws → PartLaws → SplitsKeepSound
 splits_keep_sound trees laws s source fresh path cuts free_after sound allowed licensed =

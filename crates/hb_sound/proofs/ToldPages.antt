@@ -2,19 +2,15 @@
 use Rattle.std.proofs.Common.{◌≡◌, ◌⊎◌, inr, ℕ, zero, suc, ◌<◌, ◌≤◌, List, length, Option, Some, None, IfSome, sym, ap, ◌∙◌, subst, arith}
 use Rattle.hb_lemmas.proofs.Lists.{place_within}
 use Rattle.hb_frag.specs.declared.pages.Page.{Page}
-use Rattle.hb_layout.specs.declared.meta.Meta.{Meta}
-use Rattle.hb_sound.specs.declared.page_facts.Fact.{Fact}
-use Rattle.hb_sound.specs.Facts.{IsFactOf}
 use Rattle.hb_sound.specs.Told.{GivesPage, item_at}
 
-pub told_fact : (o : Option (List (Option Page))) (id : ℕ) (meta : Meta) (fact : Fact) (page : Page) → GivesPage o id (Some page) → IsFactOf meta fact page
-    → IfSome o (λ told. (p : Page) → item_at told id ≡ Some (Some p) → IsFactOf meta fact p)
-told_fact None id meta fact page gives is = tt
-told_fact (Some told) id meta fact page gives is = λ p e.
+-- what is so of the page that was read is so of the told one
+pub told_so : (P : Page → Type 0) (o : Option (List (Option Page))) (id : ℕ) (page : Page) → GivesPage o id (Some page) → P page → IfSome o (λ told. (p : Page) → item_at told id ≡ Some (Some p) → P p)
+told_so P None id page gives is = tt
+told_so P (Some told) id page gives is = λ p e.
     let same : Some page ≡ Some p = gives (Some p) e in
     let it : page ≡ p = cc in
-    let Q : Page → Type 0 = λ x. IsFactOf meta fact x in
-    subst Q it is
+    subst P it is
 
 pub told_there : (o : Option (List (Option Page))) (id : ℕ) (page : Page) → GivesPage o id (Some page) → IfSome o (λ told. item_at told id ≡ Some None → ⊥)
 told_there None id page gives = tt

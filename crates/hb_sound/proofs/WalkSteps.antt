@@ -1,7 +1,7 @@
 -- A step of a walk leads one level down, or to a box that is part of the page's.
 use Rattle.std.proofs.Common.{◌≡◌, ◌≢◌, ℕ, ◌<◌, inl, inr, List, Some, sym, ap, subst, ◌∙◌, arith}
 use Rattle.std.proofs.lemmas.List.Elements.{All-contains}
-use Rattle.hb_space.specs.Boxes.{Area, IsArea, Holds, Within, whole_area}
+use Rattle.hb_space.specs.Boxes.{Area, IsArea, Holds, Within, whole_area, volume}
 use Rattle.hb_frag.specs.declared.leaves.Leaf.{Leaf}
 use Rattle.hb_frag.specs.declared.leaves.Leaf.TheVariants.{Child, Sibling}
 use Rattle.hb_frag.specs.declared.pages.LivePage.{LivePage}
@@ -11,10 +11,9 @@ use Rattle.hb_ops.specs.Sound.{AreWellMade, ChildrenMatch, IsCovered, SiblingsMa
 use Rattle.hb_sound.specs.Laws.{TreeLaws}
 use Rattle.hb_sound.specs.PointWalks.{LeadsFurther, LeadsOn, Sees}
 use Rattle.hb_sound.proofs.HeldSomewhere.{leaf_there}
-use Rattle.hb_sound.proofs.Facts.OneLevel.{narrower, page_area}
+use Rattle.hb_sound.proofs.Facts.OneLevel.{smaller, page_area}
 use Rattle.hb_ops.proofs.Facts.PlacedLaws.{leaf_is_sibling, placed}
 use Rattle.hb_sound.proofs.WalksDown.{child_below}
-use Rattle.hb_sound.proofs.Widths.{width}
 use Rattle.hb_lemmas.proofs.Options.{one_value}
 
 seen_in : (s : FileState) (p : List ℕ) (id : ℕ) (leaf : Leaf) (page : LivePage) → live_page s id ≡ Some page → (x : Sees s p id leaf) → leaf_at page p ≡ Some (placed leaf x.area)
@@ -29,9 +28,9 @@ module _ (laws : TreeLaws) (s : FileState) (made : AreWellMade s) (match : Sibli
       let there = leaf_there laws s made match covered area p id page (Sibling next) x.area live (seen_in s p id (Sibling next) page live x) in
       let has = leaf_is_sibling (leaves_of page.frag page.area) next x.area there.0 in
       let m = match id page next x.area live has in
-      let less : width x.area < width page.area = narrower laws s made match covered id page next x.area live has in
+      let less : volume x.area < volume page.area = smaller laws s made match covered id page next x.area live has in
       let within : Within x.area page.area = All-contains (λ (l : Placed). Within l.area page.area) (leaves_of page.frag page.area) (placed (Sibling next) x.area) (laws.within page.frag page.area (page_area laws s made match covered area id page live) (made id page live).well_cut) there.0 in
-      let other : m.0.area ≢ page.area = λ e. let same : width x.area ≡ width page.area = ap width (sym m.3 ∙ e) in absurd (omega (arith, less, same)) in
+      let other : m.0.area ≢ page.area = λ e. let same : volume x.area ≡ volume page.area = ap volume (sym m.3 ∙ e) in absurd (omega (arith, less, same)) in
       record {
         named = m.0;
         live = m.1;

@@ -1,7 +1,7 @@
 -- The walk from the root: on each level to the page that directly holds the point, and then one level down.
 use Rattle.std.proofs.Common.{◌≡◌, ℕ, zero, suc, ◌+◌, ◌<◌, inl, List, [], ◌∷◌, ◌++◌, length, Some, sym, subst, ◌∙◌, arith}
 use Rattle.std.proofs.lemmas.List.Elements.{All-contains}
-use Rattle.hb_space.specs.Boxes.{Area, IsArea, Holds, whole_area}
+use Rattle.hb_space.specs.Boxes.{Area, IsArea, Holds, whole_area, volume}
 use Rattle.hb_space.specs.declared.records.Record.{Record}
 use Rattle.hb_frag.specs.declared.leaves.Leaf.{Leaf}
 use Rattle.hb_frag.specs.declared.leaves.Leaf.TheVariants.{Records, Child, Sibling}
@@ -15,7 +15,6 @@ use Rattle.hb_sound.specs.PointWalks.{IsResponsible, IsWalk, LeadsOn, Sees}
 use Rattle.hb_sound.proofs.HeldSomewhere.{WalksOn, found, holds_directly, leaf_there, some_leaf}
 use Rattle.hb_sound.proofs.Facts.OneLevel.{holds_where_leaf}
 use Rattle.hb_ops.proofs.Facts.PlacedLaws.{leaf_is_sibling, placed, placed_is_leaf}
-use Rattle.hb_sound.proofs.Widths.{width}
 use Rattle.hb_space.proofs.Facts.Boxes.{Holds-within}
 
 -- a walk from the page down to the one that is responsible for the point
@@ -88,11 +87,11 @@ module _ (laws : TreeLaws) (s : FileState) (made : AreWellMade s) (match : Sibli
 
   pub walks_down : (level : ℕ) → Below level
   walks_down zero id page live on held =
-      let w = found laws s made match covered area p (suc (width page.area)) zero id page live on held (omega arith) in
+      let w = found laws s made match covered area p (suc (volume page.area)) zero id page live on held (omega arith) in
       let l = some_leaf laws s made match covered area p w.last w.has.page w.has.live w.has.direct.inside in
       ends_here id w l.0 l.1 l.2
   walks_down (suc level) id page live on held =
-      let w = found laws s made match covered area p (suc (width page.area)) (suc level) id page live on held (omega arith) in
+      let w = found laws s made match covered area p (suc (volume page.area)) (suc level) id page live on held (omega arith) in
       let l = some_leaf laws s made match covered area p w.last w.has.page w.has.live w.has.direct.inside in
       goes_down level id (walks_down level) w l.0 l.1 l.2
 

@@ -1,5 +1,5 @@
 -- What an operation makes of a store, from what was put into frames and added to numbers.
-use Rattle.std.proofs.Common.{◌≡◌, ℕ, Bool, false, List, [], ◌∷◌, ◌++◌, get_or, map, All, sym, subst, ap, ◌∙◌}
+use Rattle.std.proofs.Common.{◌≡◌, ℕ, Bool, false, List, [], ◌∷◌, ◌++◌, get_or, All, sym, subst, ap, ◌∙◌}
 use Rattle.std.specs.Prelude.{◌||◌, nat_eq}
 use Rattle.std.specs.HashSet as bag
 use Rattle.hb_frag.specs.declared.pages.Page.{Page}
@@ -7,10 +7,10 @@ use Rattle.hb_layout.specs.declared.meta.Meta.{Meta}
 use Rattle.hb_ops.specs.declared.operations.Op.{Op}
 use Rattle.hb_log_codec.specs.Groups.{FitsGroup}
 use Rattle.hb_ops.specs.Operations.{BoxesMatch, Change, reads_of}
-use Rattle.hb_pool.specs.Frames.{Frame, use_of}
+use Rattle.hb_pool.specs.Frames.{Frame}
 use Rattle.hb_pool.specs.Pools.{IsPool}
 use Rattle.hb_wal.specs.Log.{LogState}
-use Rattle.hb_store.specs.Calls.{Commits, IsAllowedHere, NoneComes, StaysHere, read_here, change_here, numbers_changed, use_changed}
+use Rattle.hb_store.specs.Calls.{Commits, IsAllowedHere, NoneComes, StaysHere, read_here, change_here}
 use Rattle.hb_store.specs.Filling.{PutsAll}
 use Rattle.hb_store.specs.Held.{StoreHeld}
 use Rattle.hb_store.specs.Replay.{is_among}
@@ -30,9 +30,6 @@ module _ {S : Type 0} (turn : ℕ) (meta : Meta) (log : LogState) (s : bag.HashS
     (old : StoreHeld) (view : held_of turn meta log pool s stopped ≡ old) (op : Op) (mark : ℕ) (change : Change) (bytes : List ℕ) (effect : change ≡ change_here old.state op) (meta_is : new_meta ≡ change.meta)
     (puts : PutsAll change.pages pool new_pool) (is : IsPool pool) (numbers : (q : ℕ) → bag.contains nat_eq t q ≡ (has_page q change.pages || (is_among q (reads_of op) || bag.contains nat_eq s q)))
     (log_is : new_log ≡ record { area = old.state.log.area; len = old.state.log.len; written = old.state.log.written; groups = old.state.log.groups ++ record { bytes = bytes; mark = mark } ∷ [] }) where
-  after : StoreState
-  after = seen turn new_meta new_log t stopped new_pool
-
   pub commits_then : Commits op mark old.state (seen turn new_meta new_log t stopped new_pool)
   commits_then = commits_here op mark old.state (seen turn new_meta new_log t stopped new_pool) change bytes effect
       (ap (λ (h : StoreHeld). h.state.turn) view)
@@ -43,12 +40,6 @@ module _ {S : Type 0} (turn : ℕ) (meta : Meta) (log : LogState) (s : bag.HashS
       (λ q. set_seen t q ∙ numbers q ∙ ap (λ (b : Bool). has_page q change.pages || (is_among q (reads_of op) || b)) (sym (set_seen s q) ∙ ap (λ (h : StoreHeld). is_in_log h.state q) view))
       (λ q. mark_seen new_pool q puts.pool ∙ put_marks change.pages pool new_pool puts is q ∙ ap (λ (b : Bool). has_page q change.pages || b) (sym (mark_seen pool q is) ∙ ap (λ (h : StoreHeld). is_dirty h.state q) view))
       log_is
-
-  pub uses_then : map use_of new_pool ≡ use_changed (numbers_changed old.state op) old.uses
-  uses_then =
-      puts.uses
-      ∙ ap (λ (c : Change). use_changed (map (λ (p : ℕ × Page). p.0) c.pages) (map use_of pool)) effect
-      ∙ ap (λ (h : StoreHeld). use_changed (numbers_changed old.state op) h.uses) view
 
   pub stays_then : (q : ℕ) → has_page q (change_here old.state op).pages ≡ false → StaysHere old.uses q → in_memory (seen turn new_meta new_log t stopped new_pool) q ≡ in_memory old.state q
   stays_then q off stays =

@@ -140,9 +140,6 @@ module _ (pool : List (Frame (List ℕ))) (id : ℕ) (bytes : List ℕ) (page : 
 
 -- ---- pages put, one after the other
 
-pub puts_none : (pool : List (Frame (List ℕ))) → IsPool pool → PutsAll [] pool pool
-puts_none pool is = record { made = λ q before on. cc on; others = λ q off. inl refl; uses = refl; pool = is }
-
 pub has_push : (q : ℕ) (done : List (ℕ × Page)) (one : ℕ × Page) → has_page q (done ++ one ∷ []) ≡ (has_page q done || (q == one.0))
 has_push q [] one = or-false (q == one.0)
 has_push q (x ∷ xs) one = ap (λ (b : Bool). (q == x.0) || b) (has_push q xs one) ∙ sym (or_assoc (q == x.0) (has_page q xs) (q == one.0))

@@ -1,9 +1,8 @@
 -- Numbers as they are held in memory, and as contracts see them.
-use Rattle.std.proofs.Common.{◌≡◌, ℕ, Bool, List, [], ◌∷◌, map, false, refl, sym, ap, ◌∙◌}
-use Rattle.std.specs.Prelude.{nat_eq, ◌||◌}
-use Rattle.std.specs.List.{list_any}
-use Rattle.std.specs.Ordering.{nat_cmp, eq_by_cmp}
-use Rattle.std.specs.Cmp.{nat_cmp_total, unsigned_tied}
+use Rattle.std.proofs.Common.{◌≡◌, ℕ, List, [], map, false, sym, ap, ◌∙◌}
+use Rattle.std.specs.Prelude.{nat_eq}
+use Rattle.std.specs.Ordering.{nat_cmp}
+use Rattle.std.specs.Cmp.{nat_cmp_total}
 use Rattle.std.specs.FinMap as finite
 use Rattle.std.specs.FinSet as set
 use Rattle.std.specs.HashSet as bag
@@ -19,10 +18,7 @@ use Rattle.hb_store.specs.Inside.{dirty_in, pages_in}
 use Rattle.hb_store.specs.Making.{group_here, page_images_needed}
 use Rattle.hb_store.specs.States.{StoreState, in_memory, new_state}
 use Rattle.hb_store.proofs.Framed.{held_of}
-
-any_same : (ks : List ℕ) (q : ℕ) → list_any (eq_by_cmp nat_cmp q) ks ≡ list_any (nat_eq q) ks
-any_same [] q = refl
-any_same (k ∷ ks) q = λ i. unsigned_tied q k i || any_same ks q i
+use Rattle.hb_lemmas.proofs.Maps.{any_same}
 
 module _ {S : Type 0} where
   abbrev pub set_of : bag.HashSet ℕ S → set.FinSet nat_cmp
@@ -30,9 +26,6 @@ module _ {S : Type 0} where
 
   pub set_seen : (s : bag.HashSet ℕ S) (q : ℕ) → set.contains (set_of s) q ≡ bag.contains nat_eq s q
   set_seen s q = set.contains-from_list nat_cmp_total s.keys q ∙ any_same s.keys q
-
-  pub set_same : (s t : bag.HashSet ℕ S) → ((q : ℕ) → bag.contains nat_eq t q ≡ bag.contains nat_eq s q) → set_of t ≡ set_of s
-  set_same s t same = set.same_set nat_cmp_total set.nat_cmp-IsAntisymmetric (set_of t) (set_of s) (λ q. set_seen t q ∙ same q ∙ sym (set_seen s q))
 
 -- a group by what is held is that by what is seen
 pub group_seen : {S : Type 0} (pool : List (Frame (List ℕ))) (s : bag.HashSet ℕ S) (st : StoreState) → ((q : ℕ) → in_frame pool q ≡ in_memory st q) → set_of s ≡ st.in_log → (op : Op)
@@ -45,14 +38,6 @@ group_seen pool s st pages in_log op = λ i. record {
 -- ---- what is held
 
 module _ {S : Type 0} where
-  -- numbers that answer alike are seen alike
-  pub held_same : (turn : ℕ) (meta : Meta) (log : LogState) (pool : List (Frame (List ℕ))) (s t : bag.HashSet ℕ S) (stopped : Bool)
-      → ((q : ℕ) → bag.contains nat_eq t q ≡ bag.contains nat_eq s q) → held_of turn meta log pool t stopped ≡ held_of turn meta log pool s stopped
-  held_same turn meta log pool s t stopped in_log = λ i. record {
-    state = record { turn = turn; meta = meta; log = log; pages = finite.from_entries (pages_in pool); in_log = set_same s t in_log i; dirty = set.from_list (dirty_in pool); stopped = stopped };
-    uses = map use_of pool;
-  }
-
   -- nothing is held
   pub nothing_seen : (turn : ℕ) (meta : Meta) (log : LogState) (pool : List (Frame (List ℕ))) (s : bag.HashSet ℕ S) → log ≡ (new_state turn meta).log → pool ≡ [] → s.keys ≡ []
       → ◌≡◌ {A = StoreHeld} (held_of turn meta log pool s false) (record { state = new_state turn meta; uses = [] })

@@ -35,9 +35,6 @@ good_value meta bytes good = let v = value_and (page_of_bytes bytes) (λ page. S
 module _ {T : Type 0} (turn : ℕ) (meta : Meta) (log : LogState) (s : bag.HashSet ℕ T) (stopped : Bool) (pool new : List (Frame (List ℕ))) (old : StoreHeld) (id : ℕ) (bytes : List ℕ) (view : held_of turn meta log pool s stopped ≡ old)
     (mem : IsMemory (seen turn meta log s stopped pool)) (is : IsPool pool) (each : AreSpelled pool) (e : new ≡ brought id bytes false pool)
     (absent : in_memory old.state id ≡ None) (place : 0 < places old.uses) (at : IsPageOf old.state.meta id) (good : IsSomeAnd (page_of_bytes bytes) (λ page. SpellsPage bytes page × IsGoodPage old.state.meta page)) where
-  here : StoreHeld
-  here = held_of turn meta log pool s stopped
-
   pub absent_frame : frame_of pool id ≡ None
   absent_frame = none_framed pool id (sym (page_seen pool id) ∙ ap (λ (h : StoreHeld). in_memory h.state id) view ∙ absent)
 

@@ -5,7 +5,7 @@ use Rattle.std.specs.Option.{is_some}
 use Rattle.std.specs.Ordering.{nat_cmp, eq_by_cmp}
 use Rattle.std.specs.Cmp.{nat_cmp_total, unsigned_tied}
 use Rattle.std.specs.FinSet as set
-use Rattle.std.proofs.lemmas.Bool.{and_parts, cases_eq, ne_eqb}
+use Rattle.std.proofs.lemmas.Bool.{cases_eq, ne_eqb}
 use Rattle.std.proofs.lemmas.List.{append-nil}
 use Rattle.std.proofs.lemmas.Option.{same_Some}
 use Rattle.hb_space.specs.declared.form.TheConstants.{PAGE}
@@ -52,17 +52,6 @@ was_clean : (st : StoreState) (id q : ℕ) → (q ≡ id → ⊥) → is_dirty (
 was_clean st id q other clean =
     let off : eq_by_cmp nat_cmp q id ≡ false = unsigned_tied q id ∙ ne_eqb q id other in
     ap (λ (b : Bool). not b && is_dirty st q) (sym off) ∙ sym (set.contains-remove nat_cmp_total st.dirty id q) ∙ clean
-
--- so memory stays well
-pub memory_cleaned : (st : StoreState) (id : ℕ) → IsMemory st → IsMemory (cleaned_state id st)
-memory_cleaned st id is = record {
-  stands = is.stands;
-  area = is.area;
-  len = is.len;
-  good = is.good;
-  in_file = is.in_file;
-  logged = λ q on. is.logged q (and_parts (not (eq_by_cmp nat_cmp q id)) (is_dirty st q) (sym (set.contains-remove nat_cmp_total st.dirty id q) ∙ on)).1;
-}
 
 -- A store that runs, where no group waits, and a disk on which the place of a dirty page was torn.
 module _ (d e : DiskModel) (st : StoreState) (is : IsMemory st) (going : st.stopped ≡ false) (idle : st.log.groups ≡ []) (id : ℕ) (dirty : IsTrue (is_dirty st id))

@@ -1,6 +1,6 @@
 -- Replaying groups one after the other.
 use Rattle.std.proofs.Common.{◌≡◌, ℕ, ◌+◌, ◌<◌, List, [], ◌∷◌, ◌++◌, length, get_or, map, take, drop, All, refl, sym, ap, subst, ◌∙◌}
-use Rattle.std.proofs.lemmas.List.{append-nil, drop_more, map-append, take-append-drop}
+use Rattle.std.proofs.lemmas.List.{append-nil, drop_more, map-append, take-append-drop, map-id}
 use Rattle.std.proofs.lemmas.List.Elements.{All-head}
 use Rattle.hb_lemmas.proofs.Lists.{All-behind}
 use Rattle.hb_layout.specs.declared.meta.Meta.{Meta}
@@ -15,14 +15,10 @@ use Rattle.hb_store.proofs.Facts.ReplayLaws.{MayReplay-append, MayReplay-back, S
 
 -- ---- the groups of a payload, one after the other
 
-all_of : {A : Type 0} (xs : List A) → map (λ y. y) xs ≡ xs
-all_of [] = refl
-all_of (x ∷ xs) = ap (λ ys. x ∷ ys) (all_of xs)
-
 -- a list is what came so far, the next one and those behind
 pub splits : {A : Type 0} (all xs : List A) (x : A) → map (λ y. y) xs ≡ take (length xs) all → (length xs < length all) × (x ≡ get_or all (length xs) x) → all ≡ xs ++ x ∷ drop (length xs + 1) all
 splits all xs x front next =
-    sym (take-append-drop (length xs) all) ∙ (λ i. (sym front ∙ all_of xs) i ++ (drop_more all (length xs) x next.0 ∙ (λ j. sym next.1 j ∷ drop (length xs + 1) all)) i)
+    sym (take-append-drop (length xs) all) ∙ (λ i. (sym front ∙ map-id xs) i ++ (drop_more all (length xs) x next.0 ∙ (λ j. sym next.1 j ∷ drop (length xs + 1) all)) i)
 
 pub next_fits : (k : ℕ) (all xs : List Group) (x : Group) (behind : List Group) → all ≡ xs ++ x ∷ behind → All (FitsGroup k) (map logged all) → FitsGroup k (logged x)
 next_fits k all xs x behind split fits =

@@ -1,5 +1,6 @@
 -- What a store and its files are once the groups that wait were written to the log, and what it is to write them.
-use Rattle.std.specs.Prelude.{◌≡◌, ◌+◌, false, true, List, [], IsOk, IsSome, OnErr, OnOk, Result, Ok, Err}
+use Rattle.std.specs.Prelude.{◌≡◌, ◌+◌, false, true, List, [], IsOk, IsSome, OnErr, OnOk, Result}
+use Rattle.std.specs.Result.{result_map_both}
 use Rattle.hb_disk.specs.Model.{DiskModel, Stays, Torn}
 use Rattle.hb_disk.specs.Calls.{Leaves}
 use Rattle.hb_disk.specs.Runs.{Rewrites}
@@ -28,8 +29,7 @@ pub record MayWriteGroups (d : DiskModel) (st : StoreState) : Type 0 where
 
 -- a call that writes, whatever it gives once it is done
 abbrev pub done : {T : Type 0} → Result T WriteFault → Result (Unit {0}) WriteFault
-done (Ok x) = Ok tt
-done (Err fault) = Err fault
+done result = result_map_both (λ value. tt) (λ fault. fault) result
 
 -- What it is to write the groups that wait to the log, by its result.
 pub record WritesGroups (result : Result (Unit {0}) WriteFault) (d e : DiskModel) (old new : StoreState) : Type 0 where

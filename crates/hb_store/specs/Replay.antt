@@ -1,5 +1,5 @@
 -- What the groups of a log make of the pages that they touch.
-use Rattle.std.specs.Prelude.{ℕ, ◌≤◌, ◌==◌, List, [], ◌∷◌, get_or, All, Option, None, Bool, false, ◌||◌}
+use Rattle.std.specs.Prelude.{ℕ, ◌≤◌, ◌==◌, List, [], ◌∷◌, get_or, All, Option, None, Bool}
 use Rattle.hb_frag.specs.declared.pages.LivePage.{LivePage}
 use Rattle.hb_frag.specs.declared.pages.Page.{Page}
 use Rattle.hb_layout.specs.declared.meta.Meta.{Meta}
@@ -8,6 +8,7 @@ use Rattle.hb_ops.specs.Files.{if_live}
 use Rattle.hb_ops.specs.SetPages.{set_pages}
 use Rattle.hb_ops.specs.Operations.{Change, IsAllowedOn, change_of, reads_of}
 use Rattle.hb_log_codec.specs.Groups.{Logged}
+use Rattle.std.specs.List.{list_any, fold}
 
 -- What the file says of itself, and the pages that were touched so far.
 pub record Replayed : Type 0 where
@@ -20,8 +21,7 @@ untouched meta = record { meta = meta; page = λ id. None }
 
 -- whether a number is one of these
 abbrev pub is_among : ℕ → List ℕ → Bool
-is_among q [] = false
-is_among q (id ∷ rest) = (q == id) || is_among q rest
+is_among q ids = list_any (λ id. q == id) ids
 
 abbrev pub with_page_images : Replayed → Logged → Replayed
 with_page_images t g = record { meta = t.meta; page = set_pages g.images t.page }
@@ -50,8 +50,7 @@ pub record MayFollow (t : Replayed) (g : Logged) : Type 0 where
   pub allowed : IsAllowedIn (with_page_images t g) g.op
 
 abbrev pub replay : Replayed → List Logged → Replayed
-replay t [] = t
-replay t (g ∷ rest) = replay (after_group t g) rest
+replay t groups = fold after_group t groups
 
 -- each group may be replayed after those before it
 abbrev pub MayReplay : Replayed → List Logged → Type 0

@@ -1,19 +1,13 @@
 -- Whether bytes are a legal body of a turn.
-use Rattle.std.proofs.Common.{◌≡◌, inl, inr, ℕ, ◌^◌, ◌<◌, List, [], take, drop, get_or, refl, sym, ap, ◌∙◌, subst, arith}
-use Rattle.std.proofs.lemmas.List.{append-nil}
-use Rattle.byteorder.specs.Endian.{big_number, big_bytes}
-use Rattle.byteorder.specs.Numbers.{big_number-reads_back}
+use Rattle.std.proofs.Common.{◌≡◌, inl, inr, ℕ, ◌^◌, List, take, drop, get_or, refl, sym, ap, ◌∙◌, subst, arith}
+use Rattle.byteorder.specs.Endian.{big_number}
 use Rattle.hb_lemmas.proofs.Decisions.{Known, both, known_le, known_lt, known_list}
 use Rattle.hb_lemmas.specs.Numbers.{big_endian}
 use Rattle.hb_space.specs.declared.form.TheConstants.{KMAX, ICAP_MIN}
 use Rattle.hb_layout.specs.declared.meta.Meta.{Meta}
 use Rattle.hb_layout.specs.Limits.{IsLayout}
 use Rattle.hb_super.specs.Superblocks.{FitsNumbers, IsLegal, body_bytes}
-
--- the number that its bytes are of
-number_back : (width n : ℕ) → n < 256 ^ width → big_number width (big_endian width n) ≡ n
-unfolding big_endian
-number_back width n fits = ap (big_number width) (sym (append-nil (big_bytes width n))) ∙ big_number-reads_back width n [] fits
+use Rattle.hb_lemmas.proofs.Numbers.{big_number-spelled}
 
 -- what a body says, where it is one
 said_in : List ℕ → Meta
@@ -47,14 +41,14 @@ fields_back turn meta = refl
 
 said_back : (turn : ℕ) (meta : Meta) → IsLegal turn meta → said_in (body_bytes turn meta) ≡ meta
 said_back turn meta legal =
-    let pages = number_back 4 meta.pages (omega (arith, legal.layout.few_pages)) in
-    let log = number_back 4 meta.log (omega (arith, legal.layout.log_limit)) in
-    let dcap = number_back 2 meta.dcap (omega (arith, legal.layout.dcap_most)) in
-    let icap = number_back 2 meta.icap (omega (arith, legal.layout.icap_most)) in
-    let root = number_back 4 meta.root legal.numbers.root in
-    let high = number_back 4 meta.high legal.numbers.high in
-    let live = number_back 4 meta.live legal.numbers.live in
-    let free = number_back 4 meta.free legal.numbers.free in
+    let pages = big_number-spelled 4 meta.pages (big_endian 4 meta.pages) (omega (arith, legal.layout.few_pages)) refl in
+    let log = big_number-spelled 4 meta.log (big_endian 4 meta.log) (omega (arith, legal.layout.log_limit)) refl in
+    let dcap = big_number-spelled 2 meta.dcap (big_endian 2 meta.dcap) (omega (arith, legal.layout.dcap_most)) refl in
+    let icap = big_number-spelled 2 meta.icap (big_endian 2 meta.icap) (omega (arith, legal.layout.icap_most)) refl in
+    let root = big_number-spelled 4 meta.root (big_endian 4 meta.root) legal.numbers.root refl in
+    let high = big_number-spelled 4 meta.high (big_endian 4 meta.high) legal.numbers.high refl in
+    let live = big_number-spelled 4 meta.live (big_endian 4 meta.live) legal.numbers.live refl in
+    let free = big_number-spelled 4 meta.free (big_endian 4 meta.free) legal.numbers.free refl in
     fields_back turn meta
     ∙ (λ i. record { k = meta.k; pages = pages i; log = log i; dcap = dcap i; icap = icap i; root = root i; height = meta.height; high = high i; live = live i; free = free i })
 

@@ -7,7 +7,8 @@ use Rattle.hb_layout.specs.declared.meta.Meta.{Meta}
 use Rattle.hb_layout.specs.Offsets.{slot_offset}
 use Rattle.hb_super.specs.Superblocks.{IsLegal, IsNewest, body_bytes}
 use Rattle.hb_super.proofs.Supers.{alone}
-use Rattle.hb_super.proofs.Writes.{framed_super, frame_long}
+use Rattle.hb_super.proofs.Writes.{framed_super}
+use Rattle.hb_super.proofs.Facts.BodyLaws.{frame_long}
 
 -- in places that were closed it is the newest
 pub first_newest : (b : List ℕ) (meta : Meta) → IsLegal 0 meta → 8192 ≤ length b → get_or b 4096 0 ≢ open_gate

@@ -1,5 +1,5 @@
 -- Superblocks of two places, and which is the newer.
-use Rattle.std.proofs.Common.{◌≡◌, ◌≢◌, ℕ, ◌+◌, ◌*◌, ◌%◌, ◌<◌, ◌≤◌, List, length, take, drop, get_or, Option, Some, None, sym, ap, ◌∙◌, arith, length-take, length-drop}
+use Rattle.std.proofs.Common.{◌≡◌, ◌≢◌, ℕ, ◌+◌, ◌*◌, ◌%◌, ◌<◌, ◌≤◌, List, length, take, drop, get_or, Option, Some, None, sym, ap, ◌∙◌, arith}
 use Rattle.std.proofs.lemmas.List.{get_or-take, get_or-drop, drop-take, drop-drop}
 use Rattle.hb_space.specs.declared.form.TheConstants.{PAGE}
 use Rattle.hb_layout.specs.declared.meta.Meta.{Meta}
@@ -72,9 +72,6 @@ same_place xs ys turn meta same has = record {
 module _ (bytes : List ℕ) (long : 8192 ≤ length bytes) (place : ℕ) (of_two : place < 2) where
   abbrev head : List ℕ
   head = take 41 (drop (slot_offset place) bytes)
-
-  head_long : length head ≡ 41
-  head_long = omega (arith, length-take 41 (drop (slot_offset place) bytes), length-drop (slot_offset place) bytes, long, of_two)
 
   place_same : (turn : ℕ) → turn % 2 ≡ place → slot_offset turn ≡ slot_offset place
   place_same turn here = omega (arith, here, of_two)

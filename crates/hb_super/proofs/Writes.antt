@@ -3,7 +3,6 @@ use Rattle.std.proofs.Common.{◌≡◌, ◌≢◌, inl, inr, ℕ, ◌+◌, ◌-
 use Rattle.std.proofs.Math.Dec.{eqb}
 use Rattle.std.proofs.lemmas.Bool.{cases_Bool, eqb-true, eqb-false}
 use Rattle.std.proofs.lemmas.List.{ext_get_or}
-use Rattle.hb_lemmas.specs.Numbers.{big_endian}
 use Rattle.hb_disk.specs.Model.{DiskModel, IsDisk, overwritten, Torn}
 use Rattle.hb_disk.specs.Calls.{Writes, Syncs, Leaves, Becomes, IsSynced, FrameOrNot, Apart, open_gate}
 use Rattle.hb_disk.specs.Runs.{Rewrites, WritesThrough}
@@ -22,18 +21,7 @@ use Rattle.hb_super.specs.Moments.{WriteLeaves, IsUncovered}
 use Rattle.hb_super.proofs.Supers.{gate_at, body_at, same_place, after_other}
 use Rattle.hb_super.proofs.Bodies.{known_body}
 use Rattle.hb_super.proofs.Facts.Gates.{never_both}
-
--- there are 40 bytes of a body
-pub body_long : (turn : ℕ) (meta : Meta) → length (body_bytes turn meta) ≡ 40
-unfolding big_endian
-body_long turn meta = refl
-
-pub one_more : (turn : ℕ) (meta : Meta) → 1 + length (body_bytes turn meta) ≡ 41
-unfolding big_endian
-one_more turn meta = refl
-
-pub frame_long : (turn : ℕ) (meta : Meta) → length (open_gate ∷ body_bytes turn meta) ≡ 41
-frame_long turn meta = omega (arith, body_long turn meta)
+use Rattle.hb_super.proofs.Facts.BodyLaws.{frame_long}
 
 -- a place lies in the first two pages
 pub place_fits : (turn : ℕ) → slot_offset turn + 41 ≤ 8192
@@ -102,7 +90,7 @@ pub framed_wrote : {T E : Type 0} (r : Result T E) (d new : DiskModel) (turn : �
     → WritesThrough (λ b. overwritten b at (open_gate ∷ bytes)) (Torn at (1 + length bytes)) 4 r d new
     → WritesThrough (λ b. overwritten b (slot_offset turn) (open_gate ∷ body_bytes turn meta)) (Torn (slot_offset turn) 41) 4 r d new
 framed_wrote r d new turn meta at bytes at_is bytes_are wrote =
-    subst (λ (n : ℕ). WritesThrough (λ b. overwritten b (slot_offset turn) (open_gate ∷ body_bytes turn meta)) (Torn (slot_offset turn) n) 4 r d new) (one_more turn meta)
+    subst (λ (n : ℕ). WritesThrough (λ b. overwritten b (slot_offset turn) (open_gate ∷ body_bytes turn meta)) (Torn (slot_offset turn) n) 4 r d new) (let long : 1 + length (body_bytes turn meta) ≡ 41 = omega (arith, frame_long turn meta) in long)
     (subst (λ (place : ℕ). WritesThrough (λ b. overwritten b place (open_gate ∷ body_bytes turn meta)) (Torn place (1 + length (body_bytes turn meta))) 4 r d new) at_is
     (subst (λ (body : List ℕ). WritesThrough (λ b. overwritten b at (open_gate ∷ body)) (Torn at (1 + length body)) 4 r d new) bytes_are wrote))
 
@@ -184,7 +172,7 @@ module _ (d : DiskModel) (is_disk : IsDisk d) (room : 8192 ≤ d.size) (turn : �
     framed_left : (a e c : List ℕ) → d.Image a → Torn place 1 a e → FrameOrNot place body e c → Left c
     framed_left a e c image torn framed =
         let e_long : 8192 ≤ length e = omega (arith, torn.as_long, long a image) in
-        let elsewhere : Torn place 41 e c = subst (λ (n : ℕ). Torn place n e c) (one_more turn meta) framed.elsewhere in
+        let elsewhere : Torn place 41 e c = subst (λ (n : ℕ). Torn place n e c) (let long : 1 + length (body_bytes turn meta) ≡ 41 = omega (arith, frame_long turn meta) in long) framed.elsewhere in
         let wide : Torn place 41 a c = Torn-twice place 41 a e c (Torn-wider place 1 place 41 a e (omega arith) (omega arith) torn) elsewhere in
         elim (cases_Bool (eqb (get_or c place 0) open_gate)) [
           | inl is_open ↦

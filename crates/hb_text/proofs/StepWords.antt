@@ -153,9 +153,6 @@ said_more word words said one e is = split (word_steps word) (steps_of words) re
   split (Some x) None w e is = cc
   split None y w e is = cc
 
-pub said_none : (word : List ℕ) (words : List (List ℕ)) (said : List ℕ) → steps_of (word ∷ words) ≡ Some said → word_steps word ≡ None → ⊥
-said_none word words said e is = cc (ap (λ (o : Option (List ℕ)). joined_steps o (steps_of words)) (sym is) ∙ e)
-
 -- the steps so far and the rest, after one word more
 pub steps_grow : (before now new : List ℕ) (word : List ℕ) (words : List (List ℕ)) (said all one rest : List ℕ) → now ++ said ≡ before ++ all → said ≡ one ++ rest → new ≡ now ++ one → new ++ rest ≡ before ++ all
 steps_grow before now new word words said all one rest whole is more = ap (λ (s : List ℕ). s ++ rest) more ∙ append_assoc now one rest ∙ ap (λ (s : List ℕ). now ++ s) (sym is) ∙ whole

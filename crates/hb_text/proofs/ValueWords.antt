@@ -49,11 +49,6 @@ values_done front count counter words past =
     let none : count - counter ≡ 0 = omega arith in
     rw none (ap Ok (append-nil front))
 
--- before the first value
-pub values_begin : (read : Result (List ℕ) TextRule) → after_values [] read ≡ read
-values_begin (Ok values) = refl
-values_begin (Err rule) = refl
-
 -- what is left behind the first of what was left
 pub drop_next : (i : ℕ) (xs rest : List (List ℕ)) (x : List ℕ) → drop i xs ≡ x ∷ rest → rest ≡ drop (i + 1) xs
 drop_next i xs rest x e = sym (ap (drop 1) e) ∙ drop-drop 1 i xs

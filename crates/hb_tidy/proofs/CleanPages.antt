@@ -16,9 +16,10 @@ use Rattle.hb_ops.specs.Settled.{HasChild, IsMergeable}
 use Rattle.hb_sound.proofs.Facts.MergedPages.{joins, named_box}
 use Rattle.hb_core.specs.Showing.{RunningCore}
 use Rattle.hb_tidy.proofs.KnownFiles.{IsFileOf, none_there}
-use Rattle.hb_tidy.proofs.PlacedLeaves.{child_listed, named_over}
+use Rattle.hb_tidy.proofs.PlacedLeaves.{named_over}
 use Rattle.hb_tidy.specs.Finding.{AreTidyUpTo, HasGrown, IsTidy, IsTidyAt, IsTidyBelow}
 use Rattle.hb_tidy.specs.Placing.{placed_children}
+use Rattle.hb_ops.proofs.Facts.PlacedLaws.{child_listed}
 
 -- ---- three pages that may be merged
 

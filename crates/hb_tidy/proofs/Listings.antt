@@ -1,14 +1,10 @@
 -- Lists of leaves that name pages, part by part.
-use Rattle.std.proofs.Common.{◌≡◌, List, [], ◌∷◌, ◌++◌, refl, sym, append-nil, append_assoc}
+use Rattle.std.proofs.Common.{◌≡◌, List, ◌++◌, append-nil, append_assoc}
 use Rattle.hb_frag.specs.Leaves.{Placed}
-use Rattle.hb_frag.proofs.Facts.NamesListed.{siblings-append}
+use Rattle.hb_frag.proofs.Facts.NamesListed.{siblings-append, children-append}
 use Rattle.hb_tidy.specs.declared.listing.Names.{Names}
 use Rattle.hb_tidy.specs.declared.listing.Names.TheVariants.{Children, Siblings}
-use Rattle.hb_tidy.specs.Placing.{children, named_leaves}
-
-children-append : (xs ys : List Placed) → children (xs ++ ys) ≡ children xs ++ children ys
-children-append [] ys = refl
-children-append (x ∷ xs) ys = rw (children-append xs ys) (sym (append_assoc _ (children xs) (children ys)))
+use Rattle.hb_tidy.specs.Placing.{named_leaves}
 
 pub named_leaves-append : (names : Names) (xs ys : List Placed) → named_leaves names (xs ++ ys) ≡ named_leaves names xs ++ named_leaves names ys
 named_leaves-append Children xs ys = children-append xs ys

@@ -1,50 +1,24 @@
 -- Child leaves with their boxes: which pages they name, and what is known of a point in such a box.
-use Rattle.std.proofs.Common.{◌≡◌, ◌⊎◌, inl, inr, ℕ, ◌+◌, ◌<◌, ◌≤◌, List, [], ◌∷◌, length, map, All, sym, ap, ◌∙◌, subst, arith}
+use Rattle.std.proofs.Common.{◌≡◌, ◌⊎◌, inl, inr, ℕ, ◌+◌, ◌<◌, ◌≤◌, List, [], ◌∷◌, length, map, All, sym, ◌∙◌, subst, arith}
 use Rattle.std.specs.List.{Contains}
-use Rattle.std.proofs.lemmas.List.Elements.{All-contains, Contains-append_right}
+use Rattle.std.proofs.lemmas.List.Elements.{All-contains}
 use Rattle.hb_lemmas.proofs.Lists.{each_member, first_member, later_member, member_cases, no_member}
 use Rattle.hb_space.specs.Boxes.{Area, IsArea, Holds, Within}
 use Rattle.hb_space.proofs.Facts.Boxes.{Holds-within}
 use Rattle.hb_frag.specs.declared.leaves.Leaf.{Leaf}
-use Rattle.hb_frag.specs.declared.leaves.Leaf.TheVariants.{Records, Child, Sibling}
+use Rattle.hb_frag.specs.declared.leaves.Leaf.TheVariants.{Child, Sibling}
 use Rattle.hb_frag.specs.declared.pages.LivePage.{LivePage}
 use Rattle.hb_frag.specs.Leaves.{Placed, leaves, leaves_of, siblings, siblings_of}
 use Rattle.hb_frag.specs.Rules.{BelongsAt}
 use Rattle.hb_frag.proofs.Facts.Tiles.{first_tells, leaves_placed, tiles_attributes, tiles_within}
 use Rattle.hb_layout.specs.declared.meta.Meta.{Meta}
-use Rattle.hb_ops.proofs.Facts.PlacedLaws.{placed, placed_is_leaf, sibling_is_leaf}
+use Rattle.hb_ops.proofs.Facts.PlacedLaws.{placed, placed_is_leaf, sibling_is_leaf, child_listed, listed_child}
 use Rattle.hb_ops.specs.Owing.{NamesChildAt}
 use Rattle.hb_ops.specs.Settled.{HasChild}
 use Rattle.hb_ops.specs.Sound.{FitsFile}
-use Rattle.hb_tidy.specs.Placing.{HasGiven, HasPlacedChild, StandsBelow, children, placed_children}
+use Rattle.hb_tidy.specs.Placing.{HasGiven, HasPlacedChild, StandsBelow, placed_children}
 
 -- ---- the list of child leaves
-
--- what is listed is the first leaf, or a later one
-first_listed : (leaf : Leaf) (a : Area) (rest : List Placed) (name : ℕ) (area : Area) → Contains (children (placed leaf a ∷ rest)) (name, area) → (placed leaf a ≡ placed (Child name) area) ⊎ Contains (children rest) (name, area)
-first_listed (Records records) a rest name area has = inr has
-first_listed (Sibling page) a rest name area has = inr has
-first_listed (Child page) a rest name area has = by (member_cases (page, a) (children rest) (name, area) has)
-  where
-    by : (◌≡◌ {A = ℕ × Area} (page, a) (name, area)) ⊎ Contains (children rest) (name, area) → (placed (Child page) a ≡ placed (Child name) area) ⊎ Contains (children rest) (name, area)
-    by (inl here) = inl (ap (λ (x : ℕ × Area). placed (Child x.0) x.1) here)
-    by (inr later) = inr later
-
-pub listed_child : (ls : List Placed) (name : ℕ) (area : Area) → Contains (children ls) (name, area) → Contains ls (placed (Child name) area)
-listed_child [] name area has = absurd (no_member (name, area) has)
-listed_child (x ∷ rest) name area has = by (first_listed x.leaf x.area rest name area has) (listed_child rest name area)
-  where
-    by : (x ≡ placed (Child name) area) ⊎ Contains (children rest) (name, area) → (Contains (children rest) (name, area) → Contains rest (placed (Child name) area)) → Contains (x ∷ rest) (placed (Child name) area)
-    by (inl here) in_rest = subst (λ (y : Placed). Contains (x ∷ rest) y) here (first_member x rest)
-    by (inr later) in_rest = later_member x rest (placed (Child name) area) (in_rest later)
-
-pub child_listed : (ls : List Placed) (name : ℕ) (area : Area) → Contains ls (placed (Child name) area) → Contains (children ls) (name, area)
-child_listed [] name area has = absurd (no_member (placed (Child name) area) has)
-child_listed (x ∷ rest) name area has = by (member_cases x rest (placed (Child name) area) has) (child_listed rest name area)
-  where
-    by : (x ≡ placed (Child name) area) ⊎ Contains rest (placed (Child name) area) → (Contains rest (placed (Child name) area) → Contains (children rest) (name, area)) → Contains (children (x ∷ rest)) (name, area)
-    by (inl here) in_rest = subst (λ (y : Placed). Contains (children (y ∷ rest)) (name, area)) (sym here) (first_member (name, area) (children rest))
-    by (inr later) in_rest = Contains-append_right _ (children rest) (name, area) (in_rest later)
 
 -- a leaf without its box is one with some box
 with_box : (ls : List Placed) (name : ℕ) → Contains (map (λ (l : Placed). l.leaf) ls) (Child name) → (area : Area) × Contains ls (placed (Child name) area)

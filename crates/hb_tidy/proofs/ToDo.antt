@@ -109,9 +109,6 @@ later_still seen first mid taken (inr same) one = let as_many = ap (λ (c : _). 
 
 -- behind both kinds of work some step was taken, where a job was left before
 module _ {C : Type 0} (M : C → DiskModel) (seen : C → RunningCore) (before posted merged : C) (m : Machine) (shows : ShowsMachine (M before) (seen before) m) where
-  abbrev HasMore : C → C → Type 0
-  HasMore c next = ((seen c).taken < (seen next).taken) ⊎ (next ≡ c)
-
   -- where nothing changed, no job is left
   none_changed : (kind : JobKind) (c : C) → c ≡ before → ((x : Machine) → ShowsMachine (M c) (seen c) x → jobs_of kind x ≡ 0) → 0 < jobs_of kind m → ⊥
   none_changed kind c same done some =

@@ -56,6 +56,10 @@ pub record WantsPage (s : FileState) : Type 0 where
 abbrev pub AreTidyUpTo : FileState → ℕ → Type 0
 AreTidyUpTo s count = (id : ℕ) → id ≤ count → IsTidyAt s id
 
--- these two pages are in use
+-- this page is in use under this number
+abbrev pub HasPage : ℕ → LivePage → FileState → Type 0
+HasPage id page s = live_page s id ≡ Some page
+
+-- these two are
 abbrev pub BothLive : ℕ → LivePage → ℕ → LivePage → FileState → Type 0
-BothLive parent above child below s = (live_page s parent ≡ Some above) × (live_page s child ≡ Some below)
+BothLive parent above child below s = HasPage parent above s × HasPage child below s

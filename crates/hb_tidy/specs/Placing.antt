@@ -1,10 +1,9 @@
 -- The child leaves of a page with their boxes, and what is known of a page below one of them.
-use Rattle.std.specs.Prelude.{◌≡◌, ℕ, ◌+◌, List, [], ◌∷◌, ◌++◌, Contains}
+use Rattle.std.specs.Prelude.{◌≡◌, ℕ, ◌+◌, List, Contains}
 use Rattle.hb_space.specs.Boxes.{Area, Holds, IsArea, Within}
-use Rattle.hb_frag.specs.declared.leaves.Leaf.{Leaf}
-use Rattle.hb_frag.specs.declared.leaves.Leaf.TheVariants.{Records, Child, Sibling}
+use Rattle.hb_frag.specs.declared.leaves.Leaf.TheVariants.{Child}
 use Rattle.hb_frag.specs.declared.pages.LivePage.{LivePage}
-use Rattle.hb_frag.specs.Leaves.{Placed, leaves, leaves_of, siblings, siblings_of}
+use Rattle.hb_frag.specs.Leaves.{Placed, leaves, leaves_of, siblings, siblings_of, children}
 use Rattle.hb_layout.specs.Limits.{IsLayout}
 use Rattle.hb_layout.specs.declared.meta.Meta.{Meta}
 use Rattle.hb_ops.specs.Owing.{LacksRoom}
@@ -15,16 +14,7 @@ use Rattle.hb_tidy.specs.declared.listing.Names.TheVariants.{Children, Siblings}
 use Rattle.hb_tidy.specs.declared.stops.TidyStop.{TidyStop}
 use Rattle.hb_tidy.specs.declared.stops.TidyStop.TheVariants as stops
 
--- the boxes of the child leaves, with the page that each names
-abbrev pub children : List Placed → List (ℕ × Area)
-children [] = []
-children (placed ∷ rest) = child_of placed.leaf placed.area ++ children rest
-  where
-    child_of : Leaf → Area → List (ℕ × Area)
-    child_of (Records records) area = []
-    child_of (Child page) area = (page, area) ∷ []
-    child_of (Sibling page) area = []
-
+-- the boxes of a page's child leaves
 abbrev pub placed_children : LivePage → List (ℕ × Area)
 placed_children page = children (leaves_of page.frag page.area)
 

@@ -2,11 +2,10 @@
 ghost use Rattle.std.specs.Prelude.{◌≡◌, ◌+◌, ℕ, All, IfSome, None, Some, length};
 ghost use Rattle.hb_space.specs.Boxes.{IsArea, Within};
 ghost use Rattle.hb_frag.specs.Leaves.{siblings_of};
-ghost use Rattle.hb_ops.specs.Files.{live_page};
 ghost use Rattle.hb_ops.specs.Settled.{IsMergeable};
 ghost use Rattle.hb_ops.specs.Sound.{FitsFile};
 ghost use Rattle.hb_core.specs.CoreSeen.{core_seen, core_disk};
-ghost use Rattle.hb_tidy.specs.Finding.{BothLive, IsTidyBelow};
+ghost use Rattle.hb_tidy.specs.Finding.{BothLive, HasPage, IsTidyBelow};
 ghost use Rattle.hb_tidy.specs.Going.{MayTidyWhere};
 ghost use Rattle.hb_tidy.specs.Looking.{LooksForJobs};
 ghost use Rattle.hb_tidy.specs.Placing.{HasPlacedChild, StandsBelow};
@@ -32,7 +31,7 @@ pub(crate) fn look_at_all<D: Device>(
 ) -> Result<(), TidyStop>
     requires { MayTidyWhere (λ meta. All (λ leaf. HasPlacedChild meta parent.now.page leaf.0 leaf.1) children.now)
         (D.model (core_disk core.old)) (core_seen core.old) }
-    ensures { LooksForJobs (λ s. live_page s parent.now.id ≡ Some parent.now.page) result
+    ensures { LooksForJobs (HasPage parent.now.id parent.now.page) result
         (λ s. All (IsTidyBelow s parent.now.id) children.now) jobs.old.items jobs.new.items
         (D.model (core_disk core.old)) (core_seen core.old) (D.model (core_disk core.new)) (core_seen core.new) }
 {
@@ -54,7 +53,7 @@ fn look_below<D: Device>(
 ) -> Result<(), TidyStop>
     requires { MayTidyWhere (λ meta. HasPlacedChild meta parent.now.page name area.now)
         (D.model (core_disk core.old)) (core_seen core.old) }
-    ensures { LooksForJobs (λ s. live_page s parent.now.id ≡ Some parent.now.page) result
+    ensures { LooksForJobs (HasPage parent.now.id parent.now.page) result
         (λ s. IsTidyBelow s parent.now.id (name, area.now)) jobs.old.items jobs.new.items
         (D.model (core_disk core.old)) (core_seen core.old) (D.model (core_disk core.new)) (core_seen core.new) }
 {

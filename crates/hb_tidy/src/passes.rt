@@ -7,7 +7,7 @@ ghost use Rattle.hb_ops.specs.Settled.{HasLoneRoot};
 ghost use Rattle.hb_ops.specs.Sound.{FitsFile};
 ghost use Rattle.hb_core.specs.CoreSeen.{core_seen, core_disk};
 ghost use Rattle.hb_core.specs.KeptFits.{JobFits};
-ghost use Rattle.hb_tidy.specs.Finding.{HasGrown, IsTidy, IsTidyAt};
+ghost use Rattle.hb_tidy.specs.Finding.{HasGrown, HasPage, IsTidy, IsTidyAt};
 ghost use Rattle.hb_tidy.specs.Going.{MayTidy, MayTidyWhere};
 ghost use Rattle.hb_tidy.specs.Looking.{LooksOver, NothingOf};
 ghost use Rattle.hb_tidy.specs.Owed.{IsJobOwed};
@@ -128,7 +128,7 @@ fn visit_page<D: Device>(
 ) -> Result<(), TidyStop>
     requires { MayTidyWhere (λ meta. FitsFile meta parent.now.page)
         (D.model (core_disk core.old)) (core_seen core.old) }
-    ensures { LooksOver (λ s. live_page s parent.now.id ≡ Some parent.now.page) result (λ v s. (core_seen core.new).jobs ≡ [] → IsTidyAt s parent.now.id)
+    ensures { LooksOver (HasPage parent.now.id parent.now.page) result (λ v s. (core_seen core.new).jobs ≡ [] → IsTidyAt s parent.now.id)
         (D.model (core_disk core.old)) (core_seen core.old) (D.model (core_disk core.new)) (core_seen core.new) }
 {
     let mut jobs = Vec::new(alloc);

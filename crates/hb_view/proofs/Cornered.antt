@@ -10,8 +10,8 @@ use Rattle.hb_page_codec.specs.Reading.{number_at, many_at}
 use Rattle.hb_page_codec.specs.ReadingFields.{point_at, area_at, area_between, are_ordered}
 use Rattle.hb_page_codec.proofs.Facts.Ordered.{ordered, ordered_test}
 use Rattle.hb_lemmas.proofs.Booleans.{when_some}
-use Rattle.hb_view.specs.Behind.{behind}
-use Rattle.hb_view.specs.Corners.{point_or, point_there, corners_there}
+use Rattle.hb_view.specs.Behind.{behind, list_or}
+use Rattle.hb_view.specs.Corners.{point_there, corners_there}
 use Rattle.hb_view.proofs.Skipped.{point_long, point_short}
 use Rattle.hb_view.proofs.Walked.{many_counted}
 use Rattle.hb_lemmas.proofs.Options.{bind_some}
@@ -22,7 +22,7 @@ use Rattle.hb_lemmas.specs.Options.{◌>>=◌}
 pub point_is : (k : ℕ) (bytes : List ℕ) → 8 * k ≤ length bytes → point_at k bytes ≡ Some (point_there k bytes, drop (8 * k) bytes)
 point_is k bytes room = read (point_at k bytes) (point_long k bytes room)
   where
-    read : (o : Option (List ℕ × List ℕ)) → behind o ≡ Some (drop (8 * k) bytes) → o ≡ Some (point_or o, drop (8 * k) bytes)
+    read : (o : Option (List ℕ × List ℕ)) → behind o ≡ Some (drop (8 * k) bytes) → o ≡ Some (list_or o, drop (8 * k) bytes)
     read None e = absurd cc
     read (Some x) e = ap (λ (b : List ℕ). Some (x.0, b)) (same_Some x.1 (drop (8 * k) bytes) e)
 
@@ -124,7 +124,7 @@ corners_of k bytes x y ex ey =
     let last : List ℕ → Area = λ h. record { lo = x.0; hi = h } in
     record {
       room = omega (arith, more, room, length-drop (8 * k) bytes);
-      corners = ap make (ap point_or ex) ∙ ap last (ap point_or second);
+      corners = ap make (ap list_or ex) ∙ ap last (ap list_or second);
     }
 
 pub has_corners : (k : ℕ) (bytes : List ℕ) (x : Area × List ℕ) → area_at k bytes ≡ Some x → HasCorners k bytes x.0

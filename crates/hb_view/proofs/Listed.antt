@@ -3,13 +3,12 @@ use Rattle.std.proofs.Common.{◌≡◌, ℕ, suc, ◌+◌, ◌-◌, ◌<◌, �
 use Rattle.hb_space.specs.declared.records.Record.{Record}
 use Rattle.hb_page_codec.specs.Reading.{many_at}
 use Rattle.hb_page_codec.specs.ReadingFields.{record_at, records_at}
-use Rattle.hb_view.specs.Behind.{behind}
-use Rattle.hb_view.specs.Lists.{records_there, list_or, after_there, after_or}
+use Rattle.hb_view.specs.Lists.{records_there, after_there}
 use Rattle.hb_view.specs.Views.{FindsAmong}
-use Rattle.std.proofs.lemmas.Option.{same_Some}
 use Rattle.hb_lemmas.specs.Options.{◌>>=◌}
 use Rattle.hb_lemmas.proofs.Numbers.{one_left}
 use Rattle.hb_lemmas.proofs.Options.{not_there}
+use Rattle.hb_view.specs.Behind.{after_or, list_or}
 
 -- the first of some records, and the others
 pub record IsFirst (k m : ℕ) (bytes : List ℕ) (r : Record) (after : List ℕ) : Type 0 where
@@ -68,11 +67,3 @@ unfolding many_at
 none_left k count i rest p all le on =
     let e : count - i ≡ 0 = omega arith in
     on None (subst (λ (rs : List Record). FindsAmong p rs None) (sym (ap (λ n. records_there k n rest) e)) refl)
-
--- the bytes behind a list that stands there
-pub after_found : (k count : ℕ) (bytes rest : List ℕ) → behind (records_at k count bytes) ≡ Some rest → rest ≡ after_there k count bytes
-after_found k count bytes rest e = found (records_at k count bytes) e
-  where
-    found : (r : Option (List Record × List ℕ)) → behind r ≡ Some rest → rest ≡ after_or r
-    found None e = absurd cc
-    found (Some x) e = sym (same_Some x.1 rest e)

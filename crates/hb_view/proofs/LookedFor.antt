@@ -1,25 +1,21 @@
 -- What a walk over a tree of bytes says of its leaves: which of them names a page first, which stands at a place, and how
 -- many records the one at a point has.
-use Rattle.std.proofs.Common.{◌≡◌, ℕ, ◌+◌, ◌<◌, ◌≤◌, ◌==◌, true, false, cond, List, [], ◌∷◌, ◌++◌, length, get_or, slice_get, Option, Some, None, refl, sym, ap, subst, ◌∙◌, length-append, arith}
+use Rattle.std.proofs.Common.{◌≡◌, ℕ, ◌+◌, ◌<◌, ◌≤◌, List, [], ◌∷◌, ◌++◌, length, get_or, slice_get, Option, Some, None, refl, sym, ap, subst, ◌∙◌, length-append, arith}
 use Rattle.std.proofs.Math.Nat.{suc-add}
-use Rattle.std.proofs.lemmas.Option.{none-some}
 use Rattle.hb_space.specs.Boxes.{Area, IsArea, Holds, side_below, side_from}
-use Rattle.hb_space.proofs.Facts.Boxes.{Holds-side_below, Holds-side_from}
 use Rattle.hb_frag.specs.declared.leaves.Leaf.{Leaf}
 use Rattle.hb_frag.specs.declared.leaves.Leaf.TheVariants.{Records, Child, Sibling}
-use Rattle.hb_frag.specs.Leaves.{Placed, IsWellCut, first_at, first_named, leaves_of, records_of, siblings}
+use Rattle.hb_frag.specs.Leaves.{Placed, IsWellCut, first_at, first_named, leaves_of, records_of, siblings, children}
 use Rattle.hb_frag.specs.Trees.{Tree, Tip, Cut}
-use Rattle.hb_frag.proofs.Facts.NamesListed.{named_behind, named_in_front, siblings-append}
-use Rattle.hb_frag.proofs.Facts.Sides.{IsArea-side_below, IsArea-side_from}
-use Rattle.hb_frag.proofs.Facts.Ways.{found_here, found_left, found_right}
+use Rattle.hb_frag.proofs.Facts.NamesListed.{named_behind, named_in_front, siblings-append, children-append}
 use Rattle.hb_ops.proofs.Facts.PlacedLaws.{placed}
 use Rattle.hb_page_codec.specs.ReadingFields.{record_at}
 use Rattle.hb_view.specs.declared.leaves.LeafView.{LeafView}
 use Rattle.hb_view.specs.declared.leaves.LeafView.TheVariants as views
-use Rattle.hb_view.specs.Naming.{CountsLeaf, StopsAtLeaf, first_child_box, named_box}
+use Rattle.hb_view.specs.Naming.{CountsLeaf, StopsAtLeaf, named_box}
 use Rattle.hb_view.specs.Roots.{tree_there, rest_there, IsCutAt, IsListAt}
 use Rattle.hb_view.specs.Views.{ShowsLeaf}
-use Rattle.hb_view.proofs.Walked.{many_counted}
+use Rattle.hb_view.proofs.Walked.{many_counted, LeafWithin, leaf_tip, leaf_left, leaf_right}
 
 -- ---- the leaves of both sides
 
@@ -34,37 +30,14 @@ both_sides k bytes left right axis value area below above cut r eb ea =
 
 -- ---- the first that names a page
 
--- a test of the first leaf decides alike in front of two lists
-child_step : (name : ℕ) (leaf : Leaf) (area : Area) (rest other : List Placed) (found : Area) → (first_child_box name rest ≡ Some found → first_child_box name other ≡ Some found)
-    → first_child_box name (placed leaf area ∷ rest) ≡ Some found → first_child_box name (placed leaf area ∷ other) ≡ Some found
-child_step name (Records records) area rest other found later is = later is
-child_step name (Sibling page) area rest other found later is = later is
-child_step name (Child page) area rest other found later is =
-    elim (page == name) as (λ b. cond b (Some area) (first_child_box name rest) ≡ Some found → cond b (Some area) (first_child_box name other) ≡ Some found) [ true ↦ λ here. here | false ↦ λ there. later there ] is
-
-child_in_front : (name : ℕ) (xs ys : List Placed) (found : Area) → first_child_box name xs ≡ Some found → first_child_box name (xs ++ ys) ≡ Some found
-child_in_front name [] ys found is = cc
-child_in_front name (x ∷ xs) ys found is = child_step name x.leaf x.area xs (xs ++ ys) found (child_in_front name xs ys found) is
-
-none_step : (name : ℕ) (leaf : Leaf) (area : Area) (rest front back : List Placed) → (first_child_box name rest ≡ None → first_child_box name front ≡ first_child_box name back)
-    → first_child_box name (placed leaf area ∷ rest) ≡ None → first_child_box name (placed leaf area ∷ front) ≡ first_child_box name back
-none_step name (Records records) area rest front back later is = later is
-none_step name (Sibling page) area rest front back later is = later is
-none_step name (Child page) area rest front back later is =
-    elim (page == name) as (λ b. cond b (Some area) (first_child_box name rest) ≡ None → cond b (Some area) (first_child_box name front) ≡ first_child_box name back) [ true ↦ λ here. absurd (none-some area (sym here)) | false ↦ λ there. later there ] is
-
-child_behind : (name : ℕ) (xs ys : List Placed) → first_child_box name xs ≡ None → first_child_box name (xs ++ ys) ≡ first_child_box name ys
-child_behind name [] ys is = refl
-child_behind name (x ∷ xs) ys is = none_step name x.leaf x.area xs (xs ++ ys) ys (child_behind name xs ys) is
-
 in_front : (sought : LeafView) (xs ys : List Placed) (found : Area) → named_box sought xs ≡ Some found → named_box sought (xs ++ ys) ≡ Some found
 in_front views.Records xs ys found is = cc
-in_front (views.Child page) xs ys found is = child_in_front page xs ys found is
+in_front (views.Child page) xs ys found is = ap (first_named page) (children-append xs ys) ∙ named_in_front page (children xs) (children ys) found is
 in_front (views.Sibling page) xs ys found is = ap (first_named page) (siblings-append xs ys) ∙ named_in_front page (siblings xs) (siblings ys) found is
 
 behind_all : (sought : LeafView) (xs ys : List Placed) → named_box sought xs ≡ None → named_box sought (xs ++ ys) ≡ named_box sought ys
 behind_all views.Records xs ys is = refl
-behind_all (views.Child page) xs ys is = child_behind page xs ys is
+behind_all (views.Child page) xs ys is = ap (first_named page) (children-append xs ys) ∙ named_behind page (children xs) (children ys) is
 behind_all (views.Sibling page) xs ys is = ap (first_named page) (siblings-append xs ys) ∙ named_behind page (siblings xs) (siblings ys) is
 
 -- at a cut: in the left side, and behind it
@@ -119,35 +92,27 @@ place_past k bytes left right axis value area below above place behind last cut 
 abbrev pub CountsWithin : Tree → List ℕ → ℕ → Type 0
 CountsWithin t p count = (area : Area) → IsArea area → IsWellCut t area → Holds area p → CountsLeaf (first_at p (leaves_of t area)) count
 
+abbrev CountsIn : ℕ → Leaf → Type 0
+CountsIn count leaf = count ≡ length (records_of leaf)
+
+counts : (t : Tree) (p : List ℕ) (count : ℕ) → LeafWithin (CountsIn count) t p → CountsWithin t p count
+counts t p count within area h cut held = let there = within area h cut held in record { placed = there.0; found = there.1; counted = there.2 }
+
+counts_so : (t : Tree) (p : List ℕ) (count : ℕ) → CountsWithin t p count → LeafWithin (CountsIn count) t p
+counts_so t p count tells area h cut held = let there = tells area h cut held in (there.placed, there.found, there.counted)
+
 pub counts_tip : (t : Tree) (leaf : Leaf) (p : List ℕ) (count : ℕ) → t ≡ Tip leaf → count ≡ length (records_of leaf) → CountsWithin t p count
-counts_tip t leaf p count e counted area h cut held = record { placed = placed leaf area; found = found_here t leaf area p e h held; counted = counted }
+counts_tip t leaf p count e counted = counts t p count (leaf_tip (CountsIn count) t leaf p e counted)
 
 pub counts_list : (k : ℕ) (bytes first : List ℕ) (count : ℕ) (p : List ℕ) → IsListAt k bytes count first → CountsWithin (tree_there k bytes) p count
 counts_list k bytes first count p list = counts_tip (tree_there k bytes) (Records list.records) p count list.tree (sym (many_counted (record_at k) count first (list.records, rest_there k bytes) list.read))
 
 pub counts_left : (k : ℕ) (bytes left : List ℕ) (axis value at : ℕ) (p : List ℕ) (count : ℕ) → IsCutAt k bytes axis value left → at ≡ axis → get_or p at 0 < value → CountsWithin (tree_there k left) p count → CountsWithin (tree_there k bytes) p count
-counts_left k bytes left axis value at p count cut e lt counts area h cuts held =
-    let parts : IsWellCut (Cut axis value (tree_there k left) (tree_there k (rest_there k left))) area = subst (λ (t : Tree). IsWellCut t area) cut.tree cuts in
-    let below : get_or p axis 0 < value = subst (λ (n : ℕ). get_or p n 0 < value) e lt in
-    let there = counts (side_below area axis value) (IsArea-side_below area axis value h parts.0) parts.1 ((Holds-side_below area axis value p h parts.0).1 (held, below)) in
-    record {
-      placed = there.placed;
-      found = found_left (tree_there k bytes) (tree_there k left) (tree_there k (rest_there k left)) (tree_there k left) axis value area (side_below area axis value) p there.placed cut.tree refl refl there.found;
-      counted = there.counted;
-    }
+counts_left k bytes left axis value at p count cut e lt tells = counts (tree_there k bytes) p count (leaf_left (CountsIn count) k bytes left axis value at p cut e lt (counts_so (tree_there k left) p count tells))
 
 pub counts_right : (k : ℕ) (bytes left rest : List ℕ) (axis value at : ℕ) (p : List ℕ) (count : ℕ) → IsCutAt k bytes axis value left → rest ≡ rest_there k left → at ≡ axis → value ≤ get_or p at 0
     → CountsWithin (tree_there k rest) p count → CountsWithin (tree_there k bytes) p count
-counts_right k bytes left rest axis value at p count cut r e le counts area h cuts held =
-    let parts : IsWellCut (Cut axis value (tree_there k left) (tree_there k (rest_there k left))) area = subst (λ (t : Tree). IsWellCut t area) cut.tree cuts in
-    let above : value ≤ get_or p axis 0 = subst (λ (n : ℕ). value ≤ get_or p n 0) e le in
-    let right : IsWellCut (tree_there k rest) (side_from area axis value) = subst (λ (b : List ℕ). IsWellCut (tree_there k b) (side_from area axis value)) (sym r) parts.2 in
-    let there = counts (side_from area axis value) (IsArea-side_from area axis value h parts.0) right ((Holds-side_from area axis value p parts.0).1 (held, above)) in
-    record {
-      placed = there.placed;
-      found = found_right (tree_there k bytes) (tree_there k left) (tree_there k (rest_there k left)) (tree_there k rest) axis value area (side_from area axis value) p there.placed cut.tree (ap (tree_there k) r) refl h cuts held above there.found;
-      counted = there.counted;
-    }
+counts_right k bytes left rest axis value at p count cut r e le tells = counts (tree_there k bytes) p count (leaf_right (CountsIn count) k bytes left rest axis value at p cut r e le (counts_so (tree_there k rest) p count tells))
 
 -- ---- the right side of a tree that is well cut
 

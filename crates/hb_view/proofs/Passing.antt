@@ -4,17 +4,9 @@ use Rattle.hb_lemmas.proofs.Lists.{All-parts, put_back}
 use Rattle.hb_space.specs.Boxes.{Area, Cuts, side_below, side_from}
 use Rattle.hb_frag.specs.Leaves.{IsWellCut, leaves_of}
 use Rattle.hb_frag.specs.Rules.{IsInOrder}
-use Rattle.hb_frag.specs.declared.leaves.Leaf.{Leaf}
-use Rattle.hb_frag.specs.Trees.{Tree, Tip, Cut}
+use Rattle.hb_frag.specs.Trees.{Tree, Cut}
 use Rattle.hb_view.specs.Walks.{WalksOver}
 use Rattle.hb_view.specs.Roots.{tree_there, rest_there, IsCutAt}
-
--- at a leaf
-pub tip_passes : (k : ℕ) (bytes r : List ℕ) (leaf : Leaf) (W : Tree → Type 0) → tree_there k bytes ≡ Tip leaf → W (Tip leaf) → r ≡ rest_there k bytes → WalksOver (W (tree_there k bytes)) (rest_there k bytes) (Some r)
-tip_passes k bytes r leaf W e h same = (subst W (sym e) h, same)
-
-pub tip_stops : (k : ℕ) (bytes : List ℕ) (leaf : Leaf) (W : Tree → Type 0) → tree_there k bytes ≡ Tip leaf → ¬ (W (Tip leaf)) → WalksOver (W (tree_there k bytes)) (rest_there k bytes) None
-tip_stops k bytes leaf W e never = λ w. never (subst W e w)
 
 -- what of the whole holds exactly where it holds of both sides
 abbrev pub Splits : (Tree → Type 0) → (Tree → Type 0) → (Tree → Type 0) → ℕ → ℕ → Tree → Tree → Type 0

@@ -10,8 +10,8 @@ use Rattle.hb_frag.specs.Trees.{Tree}
 use Rattle.hb_page_codec.specs.Reading.{number_at}
 use Rattle.hb_page_codec.specs.ReadingFields.{axis_at}
 use Rattle.hb_page_codec.specs.ReadingPages.{tree_at}
-use Rattle.hb_view.specs.Behind.{behind, list_behind, cut_behind, name_behind, node_behind, rest_after}
-use Rattle.hb_view.specs.Roots.{rest_there, rest_or}
+use Rattle.hb_view.specs.Behind.{behind, list_behind, cut_behind, name_behind, node_behind, rest_after, after_or}
+use Rattle.hb_view.specs.Roots.{rest_there}
 use Rattle.hb_view.proofs.Skipped.{tree_skipped, tree_shorter}
 use Rattle.hb_lemmas.specs.Options.{◌>>=◌}
 
@@ -172,7 +172,7 @@ pub one_tree : (k : ℕ) (bytes : List ℕ) → IsSome (tree_at k bytes) → res
 unfolding rest_after
 one_tree k bytes there = found (tree_at k bytes) there
   where
-    found : (r : Option (Tree × List ℕ)) → IsSome r → (behind r >>= λ rest. rest_after 0 k rest) ≡ Some (rest_or r)
+    found : (r : Option (Tree × List ℕ)) → IsSome r → (behind r >>= λ rest. rest_after 0 k rest) ≡ Some (after_or r)
     found None some = absurd cc
     found (Some x) some = refl
 

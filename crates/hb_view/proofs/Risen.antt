@@ -12,10 +12,11 @@ use Rattle.hb_frag.specs.declared.leaves.Leaf.TheVariants as leaves
 use Rattle.hb_frag.specs.Leaves.{leaves_of}
 use Rattle.hb_frag.specs.Rules.{IsInOrder, Precedes}
 use Rattle.hb_frag.specs.Trees.{Tree, Tip}
-use Rattle.hb_view.specs.Lists.{records_there, after_there, list_or, after_or}
+use Rattle.hb_view.specs.Lists.{records_there, after_there}
 use Rattle.hb_view.specs.Walks.{WalksOver, ComesBehind, RiseFrom}
 use Rattle.hb_view.specs.Roots.{tree_there, rest_there, IsListAt}
 use Rattle.hb_page_codec.specs.Reading.{many_at}
+use Rattle.hb_view.specs.Behind.{after_or, list_or}
 
 -- ---- a step over the records
 

@@ -11,8 +11,9 @@ use Rattle.hb_page_codec.specs.Reading.{byte_at, number_at}
 use Rattle.hb_page_codec.specs.ReadingFields.{axis_at, count_at, records_at}
 use Rattle.hb_page_codec.specs.ReadingPages.{cut_at, records_tip_at, node_at, tree_at}
 use Rattle.hb_page_codec.proofs.Facts.Depth.{tree_is, tree_shortens, number_shortens, axis_shortens, left_by}
-use Rattle.hb_view.specs.Roots.{rest_there, tree_or, rest_or, RootSeen, SeenCut, SeenRecords, SeenChild, SeenSibling, root_at, IsSeenAt}
+use Rattle.hb_view.specs.Roots.{rest_there, tree_or, RootSeen, SeenCut, SeenRecords, SeenChild, SeenSibling, root_at, IsSeenAt}
 use Rattle.hb_lemmas.specs.Options.{◌>>=◌}
+use Rattle.hb_view.specs.Behind.{after_or}
 
 -- the root that is seen
 abbrev pub IsSeen : ℕ → List ℕ → Type 0
@@ -36,7 +37,7 @@ cut_root k rest a v l r ea ev el er all =
     let la = left_by (axis_at k rest) (length rest) a (axis_shortens k rest) ea in
     let lv = left_by (number_at 8 a.1) (length a.1) v (number_shortens 8 a.1) ev in
     let ll = left_by (tree_at k v.1) (length v.1) l (tree_shortens k v.1) el in
-    let behind : rest_there k v.1 ≡ l.1 = ap rest_or el in (
+    let behind : rest_there k v.1 ≡ l.1 = ap after_or el in (
       SeenCut a.0 v.0 v.1,
       rw (ea, ev) refl,
       record {
@@ -80,7 +81,7 @@ records_seen k rest x whole e =
 
 child_root : (k : ℕ) (rest : List ℕ) (a : ℕ × List ℕ) → number_at 4 rest ≡ Some a → tree_at k (suc (suc zero) ∷ rest) ≡ Some (Tip (leaves.Child a.0), a.1) → IsSeen k (suc (suc zero) ∷ rest)
 unfolding root_at
-child_root k rest a ea all = (SeenChild a.0 a.1, rw ea refl, record { tree = ap tree_or all; behind = ap rest_or all })
+child_root k rest a ea all = (SeenChild a.0 a.1, rw ea refl, record { tree = ap tree_or all; behind = ap after_or all })
 
 child_seen : (k : ℕ) (rest : List ℕ) (x : Tree × List ℕ) → tree_at k (suc (suc zero) ∷ rest) ≡ Some x → (number_at 4 rest >>= λ page. Some (Tip (leaves.Child page.0), page.1)) ≡ Some x → IsSeen k (suc (suc zero) ∷ rest)
 child_seen k rest x whole e =
@@ -89,7 +90,7 @@ child_seen k rest x whole e =
 
 sibling_root : (k : ℕ) (rest : List ℕ) (a : ℕ × List ℕ) → number_at 4 rest ≡ Some a → tree_at k (suc (suc (suc zero)) ∷ rest) ≡ Some (Tip (leaves.Sibling a.0), a.1) → IsSeen k (suc (suc (suc zero)) ∷ rest)
 unfolding root_at
-sibling_root k rest a ea all = (SeenSibling a.0 a.1, rw ea refl, record { tree = ap tree_or all; behind = ap rest_or all })
+sibling_root k rest a ea all = (SeenSibling a.0 a.1, rw ea refl, record { tree = ap tree_or all; behind = ap after_or all })
 
 sibling_seen : (k : ℕ) (rest : List ℕ) (x : Tree × List ℕ) → tree_at k (suc (suc (suc zero)) ∷ rest) ≡ Some x → (number_at 4 rest >>= λ page. Some (Tip (leaves.Sibling page.0), page.1)) ≡ Some x → IsSeen k (suc (suc (suc zero)) ∷ rest)
 sibling_seen k rest x whole e =

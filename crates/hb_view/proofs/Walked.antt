@@ -7,17 +7,18 @@ use Rattle.hb_space.proofs.Facts.Boxes.{Holds-side_below, Holds-side_from}
 use Rattle.hb_frag.specs.declared.leaves.Leaf.{Leaf}
 use Rattle.hb_frag.specs.declared.leaves.Leaf.TheVariants as leaves
 use Rattle.hb_frag.specs.Trees.{Tree, Tip, Cut}
-use Rattle.hb_frag.specs.Leaves.{IsWellCut, first_at, leaves_of, records_of, weight_of}
+use Rattle.hb_frag.specs.Leaves.{IsWellCut, first_at, leaves_of, records_of, weight_of, Placed}
 use Rattle.hb_frag.proofs.Facts.Ways.{found_here, found_left, found_right}
 use Rattle.hb_frag.proofs.Facts.Sides.{IsArea-side_below, IsArea-side_from}
 use Rattle.hb_page_codec.specs.Reading.{many_at}
 use Rattle.hb_page_codec.specs.ReadingFields.{record_at}
 use Rattle.hb_view.specs.declared.leaves.LeafView.{LeafView}
-use Rattle.hb_view.specs.Lists.{records_there, list_or}
+use Rattle.hb_view.specs.Lists.{records_there}
 use Rattle.hb_view.specs.Roots.{tree_there, rest_there, IsCutAt, IsListAt}
 use Rattle.hb_view.specs.Views.{leaf_view, ShowsLeaf, TellsBody, FindsAmong}
 use Rattle.hb_lemmas.proofs.Options.{bind_some}
 use Rattle.hb_lemmas.specs.Options.{◌>>=◌}
+use Rattle.hb_view.specs.Behind.{list_or}
 
 -- ---- the leaf at a point
 
@@ -45,39 +46,56 @@ shows_right k bytes left rest axis value at p area above view box cut r e is_are
       area = h.area;
     }
 
+-- ---- what is so of the leaf at a point
+
+-- it is so of the leaf at the point in a tree, whatever the tree's box
+abbrev pub LeafWithin : (Leaf → Type 0) → Tree → List ℕ → Type 0
+LeafWithin P t p = (area : Area) → IsArea area → IsWellCut t area → Holds area p → (l : Placed) × (first_at p (leaves_of t area) ≡ Some l) × P l.leaf
+
+module _ (P : Leaf → Type 0) where
+  pub leaf_tip : (t : Tree) (leaf : Leaf) (p : List ℕ) → t ≡ Tip leaf → P leaf → LeafWithin P t p
+  leaf_tip t leaf p e so area h cut held = (record { leaf = leaf; area = area }, found_here t leaf area p e h held, so)
+
+  pub leaf_left : (k : ℕ) (bytes left : List ℕ) (axis value at : ℕ) (p : List ℕ) → IsCutAt k bytes axis value left → at ≡ axis → get_or p at 0 < value → LeafWithin P (tree_there k left) p → LeafWithin P (tree_there k bytes) p
+  leaf_left k bytes left axis value at p cut e lt within area h cuts held =
+      let parts : IsWellCut (Cut axis value (tree_there k left) (tree_there k (rest_there k left))) area = subst (λ (t : Tree). IsWellCut t area) cut.tree cuts in
+      let below : get_or p axis 0 < value = subst (λ (n : ℕ). get_or p n 0 < value) e lt in
+      let there = within (side_below area axis value) (IsArea-side_below area axis value h parts.0) parts.1 ((Holds-side_below area axis value p h parts.0).1 (held, below)) in
+      (there.0, found_left (tree_there k bytes) (tree_there k left) (tree_there k (rest_there k left)) (tree_there k left) axis value area (side_below area axis value) p there.0 cut.tree refl refl there.1, there.2)
+
+  pub leaf_right : (k : ℕ) (bytes left rest : List ℕ) (axis value at : ℕ) (p : List ℕ) → IsCutAt k bytes axis value left → rest ≡ rest_there k left → at ≡ axis → value ≤ get_or p at 0 → LeafWithin P (tree_there k rest) p → LeafWithin P (tree_there k bytes) p
+  leaf_right k bytes left rest axis value at p cut r e le within area h cuts held =
+      let parts : IsWellCut (Cut axis value (tree_there k left) (tree_there k (rest_there k left))) area = subst (λ (t : Tree). IsWellCut t area) cut.tree cuts in
+      let above : value ≤ get_or p axis 0 = subst (λ (n : ℕ). value ≤ get_or p n 0) e le in
+      let right : IsWellCut (tree_there k rest) (side_from area axis value) = subst (λ (b : List ℕ). IsWellCut (tree_there k b) (side_from area axis value)) (sym r) parts.2 in
+      let there = within (side_from area axis value) (IsArea-side_from area axis value h parts.0) right ((Holds-side_from area axis value p parts.0).1 (held, above)) in
+      (there.0, found_right (tree_there k bytes) (tree_there k left) (tree_there k (rest_there k left)) (tree_there k rest) axis value area (side_from area axis value) p there.0 cut.tree (ap (tree_there k) r) refl h cuts held above there.1, there.2)
+
 -- ---- the record at a point
+
+abbrev pub FindsIn : List ℕ → Option (List ℕ) → Leaf → Type 0
+FindsIn p body leaf = FindsAmong p (records_of leaf) body
 
 -- what is found in a tree, whatever its box
 abbrev pub FindsWithin : Tree → List ℕ → Option (List ℕ) → Type 0
 FindsWithin t p body = (area : Area) → IsArea area → IsWellCut t area → Holds area p → TellsBody p (first_at p (leaves_of t area)) body
 
+finds : (t : Tree) (p : List ℕ) (body : Option (List ℕ)) → LeafWithin (FindsIn p body) t p → FindsWithin t p body
+finds t p body within area h cut held = let there = within area h cut held in record { placed = there.0; found = there.1; among = there.2 }
+
+finds_so : (t : Tree) (p : List ℕ) (body : Option (List ℕ)) → FindsWithin t p body → LeafWithin (FindsIn p body) t p
+finds_so t p body tells area h cut held = let there = tells area h cut held in (there.placed, there.found, there.among)
+
 pub finds_tip : (t : Tree) (leaf : Leaf) (p : List ℕ) (body : Option (List ℕ)) → t ≡ Tip leaf → FindsAmong p (records_of leaf) body → FindsWithin t p body
-finds_tip t leaf p body e among area h cut held = record { placed = record { leaf = leaf; area = area }; found = found_here t leaf area p e h held; among = among }
+finds_tip t leaf p body e among = finds t p body (leaf_tip (FindsIn p body) t leaf p e among)
 
 pub finds_left : (k : ℕ) (bytes left : List ℕ) (axis value at : ℕ) (p : List ℕ) (body : Option (List ℕ)) → IsCutAt k bytes axis value left → at ≡ axis → get_or p at 0 < value
     → FindsWithin (tree_there k left) p body → FindsWithin (tree_there k bytes) p body
-finds_left k bytes left axis value at p body cut e lt finds area h cuts held =
-    let parts : IsWellCut (Cut axis value (tree_there k left) (tree_there k (rest_there k left))) area = subst (λ (t : Tree). IsWellCut t area) cut.tree cuts in
-    let below : get_or p axis 0 < value = subst (λ (n : ℕ). get_or p n 0 < value) e lt in
-    let there = finds (side_below area axis value) (IsArea-side_below area axis value h parts.0) parts.1 ((Holds-side_below area axis value p h parts.0).1 (held, below)) in
-    record {
-      placed = there.placed;
-      found = found_left (tree_there k bytes) (tree_there k left) (tree_there k (rest_there k left)) (tree_there k left) axis value area (side_below area axis value) p there.placed cut.tree refl refl there.found;
-      among = there.among;
-    }
+finds_left k bytes left axis value at p body cut e lt tells = finds (tree_there k bytes) p body (leaf_left (FindsIn p body) k bytes left axis value at p cut e lt (finds_so (tree_there k left) p body tells))
 
 pub finds_right : (k : ℕ) (bytes left rest : List ℕ) (axis value at : ℕ) (p : List ℕ) (body : Option (List ℕ)) → IsCutAt k bytes axis value left → rest ≡ rest_there k left → at ≡ axis → value ≤ get_or p at 0
     → FindsWithin (tree_there k rest) p body → FindsWithin (tree_there k bytes) p body
-finds_right k bytes left rest axis value at p body cut r e le finds area h cuts held =
-    let parts : IsWellCut (Cut axis value (tree_there k left) (tree_there k (rest_there k left))) area = subst (λ (t : Tree). IsWellCut t area) cut.tree cuts in
-    let above : value ≤ get_or p axis 0 = subst (λ (n : ℕ). value ≤ get_or p n 0) e le in
-    let right : IsWellCut (tree_there k rest) (side_from area axis value) = subst (λ (b : List ℕ). IsWellCut (tree_there k b) (side_from area axis value)) (sym r) parts.2 in
-    let there = finds (side_from area axis value) (IsArea-side_from area axis value h parts.0) right ((Holds-side_from area axis value p parts.0).1 (held, above)) in
-    record {
-      placed = there.placed;
-      found = found_right (tree_there k bytes) (tree_there k left) (tree_there k (rest_there k left)) (tree_there k rest) axis value area (side_from area axis value) p there.placed cut.tree (ap (tree_there k) r) refl h cuts held above there.found;
-      among = there.among;
-    }
+finds_right k bytes left rest axis value at p body cut r e le tells = finds (tree_there k bytes) p body (leaf_right (FindsIn p body) k bytes left rest axis value at p cut r e le (finds_so (tree_there k rest) p body tells))
 
 -- a leaf of records finds what is found among them
 pub finds_list : (k : ℕ) (bytes first : List ℕ) (count : ℕ) (p : List ℕ) (body : Option (List ℕ)) → IsListAt k bytes count first → FindsAmong p (records_there k count first) body → FindsWithin (tree_there k bytes) p body

@@ -11,6 +11,15 @@ abbrev pub behind : {A : Type 0} → Option (A × List ℕ) → Option (List ℕ
 behind (Some x) = Some x.1
 behind None = None
 
+-- so many elements as were read, and the bytes behind what was read, none of either where nothing was
+abbrev pub list_or : {A : Type 0} → Option (List A × List ℕ) → List A
+list_or (Some x) = x.0
+list_or None = []
+
+abbrev pub after_or : {A : Type 0} → Option (A × List ℕ) → List ℕ
+after_or (Some x) = x.1
+after_or None = []
+
 -- a record of k attributes
 unfoldable pub record_behind : ℕ → List ℕ → Option (List ℕ)
 record_behind k bytes = do

@@ -1,21 +1,14 @@
 -- Leaves looked for by the page that they name, or by their place.
-use Rattle.std.specs.Prelude.{◌≡◌, ℕ, ◌==◌, if◌then◌else◌, Bool, false, List, [], ◌∷◌, length, Option, Some, None}
+use Rattle.std.specs.Prelude.{◌≡◌, ℕ, List, length, Option, Some, None}
 use Rattle.hb_space.specs.Boxes.{Area}
-use Rattle.hb_frag.specs.declared.leaves.Leaf.{Leaf}
 use Rattle.hb_frag.specs.declared.leaves.Leaf.TheVariants.{Records, Child, Sibling}
-use Rattle.hb_frag.specs.Leaves.{Placed, first_named, records_of, siblings}
+use Rattle.hb_frag.specs.Leaves.{Placed, first_named, records_of, siblings, children}
 use Rattle.hb_view.specs.declared.leaves.LeafView.{LeafView}
 use Rattle.hb_view.specs.declared.leaves.LeafView.TheVariants as views
 
 -- the box of the first child leaf from the left that names a page
 abbrev pub first_child_box : ℕ → List Placed → Option Area
-first_child_box name [] = None
-first_child_box name (placed ∷ rest) = if names placed.leaf then Some placed.area else first_child_box name rest
-  where
-    names : Leaf → Bool
-    names (Records records) = false
-    names (Child page) = page == name
-    names (Sibling page) = false
+first_child_box name leaves = first_named name (children leaves)
 
 -- the box of the first leaf from the left that names the page of this one, in the same way; records name none
 abbrev pub named_box : LeafView → List Placed → Option Area

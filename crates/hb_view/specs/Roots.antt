@@ -9,6 +9,7 @@ use Rattle.hb_page_codec.specs.ReadingFields.{axis_at, count_at, records_at}
 use Rattle.hb_page_codec.specs.ReadingPages.{tree_at}
 use Rattle.hb_view.specs.declared.roots.Root.{Root}
 use Rattle.hb_view.specs.declared.roots.Root.TheVariants as roots
+use Rattle.hb_view.specs.Behind.{after_or}
 use Rattle.hb_lemmas.specs.Options.{◌>>=◌}
 
 -- the tree at the front of the bytes, where one stands there
@@ -20,12 +21,8 @@ abbrev pub tree_there : ℕ → List ℕ → Tree
 tree_there k bytes = tree_or (tree_at k bytes)
 
 -- and the bytes behind it
-abbrev pub rest_or : Option (Tree × List ℕ) → List ℕ
-rest_or (Some x) = x.1
-rest_or None = []
-
 abbrev pub rest_there : ℕ → List ℕ → List ℕ
-rest_there k bytes = rest_or (tree_at k bytes)
+rest_there k bytes = after_or (tree_at k bytes)
 
 -- What a root says by itself: a cut with the bytes of its sides, a leaf with the bytes of its records, or one that names
 -- a page, with the bytes behind it.

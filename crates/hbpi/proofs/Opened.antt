@@ -10,7 +10,6 @@ use Rattle.hb_store.specs.Keeps.{StoreKeeps}
 use Rattle.hb_store.specs.Opening.{IsEven, OpensTo, OpensToOne}
 use Rattle.hb_store.specs.States.{StoreState}
 use Rattle.hbpi.specs.Drives.{LeavesLate}
-use Rattle.hbpi.specs.Driven.{IsOpened}
 
 -- a store that runs is over an even disk
 pub even_store : (d : DiskModel) (st : StoreState) (durable : FileState) (later : List FileState) → StoreKeeps d st durable later → st.stopped ≡ false → IsEven d durable
@@ -51,10 +50,6 @@ is_opening d m store count disk opens through leaves = record {
   reads = (leaves.faults.no_fault (λ x. x)).0;
   writes = (leaves.faults.no_fault (λ x. x)).1;
 }
-
--- the same of a record of the contract, where the disk keeps the laws of disks
-pub opening_of : (k : ℕ) (d m : DiskModel) → IsDisk m → IsOpened k d m → IsOpening d m
-opening_of k d m disk opened = is_opening d m opened.store opened.count disk opened.opens opened.through opened.leaves
 
 -- where one of them tells, the other one does
 pub tells_behind : (d m : DiskModel) → IsOpening d m → IsSome d.told → IsSome m.told

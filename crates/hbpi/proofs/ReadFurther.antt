@@ -7,7 +7,7 @@ use Rattle.hb_frag.specs.declared.pages.Page.{Page}
 use Rattle.hb_layout.specs.declared.meta.Meta.{Meta}
 use Rattle.hb_lemmas.proofs.Options.{at_value, if_value}
 use Rattle.hb_outside.specs.Streams.{Rose}
-use Rattle.hb_restart.specs.Beyond.{KeepsBeyond, KeepsBeyondFile}
+use Rattle.hb_restart.specs.Beyond.{KeepsBeyond}
 use Rattle.hb_restart.specs.Leaving.{LeavesOpening, OpensStore, RunsThrough}
 use Rattle.hb_restart.specs.Renewing.{WritesAll, WritesEachOnce, touched_to}
 use Rattle.hb_store.proofs.Facts.LookLaws.{LooksUp-read}
@@ -71,6 +71,3 @@ leaves_further d e f good only leaves =
         writes = omega (arith, none.1, only.writes);
       };
     }
-
-pub beyond_file_further : (d e f : DiskModel) → Stays e f → KeepsBeyondFile d e → KeepsBeyondFile d f
-beyond_file_further d e f stays beyond b turn said told newest = beyond_further _ d e f stays (beyond b turn said told newest)

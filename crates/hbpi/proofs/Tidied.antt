@@ -1,7 +1,5 @@
 -- What a tidying of a file that was just opened comes to, seen from before the opening.
-use Rattle.std.proofs.Common.{◌≡◌, ℕ, List, [], ◌∷◌, Option, None, IfSome, Result, Ok, Err, sym, ap, ◌∙◌, subst}
-use Rattle.std.specs.List.{AllByRecursion}
-use Rattle.std.proofs.lemmas.List.Elements.{recursion_from_All}
+use Rattle.std.proofs.Common.{◌≡◌, ℕ, List, [], Option, None, IfSome, Result, Ok, Err, sym, ap, ◌∙◌, subst}
 use Rattle.hb_core.specs.Machines.{Files, Machine, current_file}
 use Rattle.hb_core.specs.Runs.{ChangesFile, CountsFaults, IsPrefixImage}
 use Rattle.hb_core.specs.Showing.{RunningCore, ShowsFiles}
@@ -32,11 +30,7 @@ use Rattle.hbpi.specs.SeenRuns.{IsUnread, Seen, run_of}
 use Rattle.hbpi.specs.Starts.{StartLaws}
 use Rattle.hbpi.specs.Tidied.{GrewBy, HasContents, HasSameRecords, IsTidied, LeavesTidied}
 use Rattle.hbpi.specs.TidyRuns.{EndsForced, FilesTidied, TidiesFile, TidyWhy}
-
--- the file after all groups that wait is sound
-last_sound : (s : FileState) (later : List FileState) → IsSound s → AllByRecursion IsSound later → IsSound (last_of s later)
-last_sound s [] sound all = sound
-last_sound s (next ∷ later) sound all = last_sound next later all.0 all.1
+use Rattle.hb_core.proofs.Facts.LaterPages.{last_sound}
 
 -- ---- over the file of a disk that tells
 
@@ -49,7 +43,7 @@ module _ (s : FileState) (d e : DiskModel) (m new : Machine) (first : Files) (ke
 
   current : HasSameRecords s (current_file files)
   current = record {
-    sound = last_sound files.durable files.later keeps.keeps.sound_file.durable (recursion_from_All IsSound files.later keeps.keeps.sound_file.later);
+    sound = last_sound files.durable files.later keeps.keeps.sound_file.durable keeps.keeps.sound_file.later;
     contents = same_contents;
   }
 

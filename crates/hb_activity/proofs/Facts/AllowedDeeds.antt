@@ -1,33 +1,23 @@
 -- That a row's operation is allowed: the parts that rows have in common.
-use Rattle.std.proofs.Common.{◌≡◌, ℕ, ◌<◌, List, [], All, Some, None, sym, ap, ◌∙◌, subst, arith}
-use Rattle.std.proofs.lemmas.List.Elements.{All-append, All-cons, All-head, All-nil}
+use Rattle.std.proofs.Common.{◌≡◌, ℕ, ◌<◌, List, Some, None, sym, ap, ◌∙◌, subst, arith}
 use Rattle.std.proofs.lemmas.Option.{none-some, same_Some}
 use Rattle.hb_frag.specs.declared.pages.LivePage.{LivePage}
 use Rattle.hb_layout.specs.declared.meta.Meta.{Meta}
-use Rattle.hb_frag.specs.Leaves.{Placed, leaf_at, leaves, leaves_of}
+use Rattle.hb_frag.specs.Leaves.{Placed, leaf_at, leaves_of}
 use Rattle.hb_frag.specs.Rules.{BelongsAt}
-use Rattle.hb_frag.specs.Trees.{Tree, Tip, Cut}
 use Rattle.hb_ops.specs.declared.operations.Op.{Op}
 use Rattle.hb_activity.specs.Deeds.{Deed}
 use Rattle.hb_activity.specs.OneDeed.{NumbersAreGiven}
 use Rattle.hb_activity.specs.Sights.{Sight}
 use Rattle.hb_ops.specs.Allocating.{Allocates}
 use Rattle.hb_ops.specs.Sound.{FitsFile}
-use Rattle.hb_space.specs.Boxes.{Area, side_below, side_from}
-use Rattle.hb_lemmas.proofs.Lists.{All-behind, All-front}
 use Rattle.hb_ops.proofs.Facts.Opened.{first_has}
+use Rattle.hb_frag.proofs.Facts.Tiles.{placed_all}
 
 -- ---- the leaf at a point belongs at the level of its page
 
-placed_kinds : (level : ℕ) (t : Tree) (area : Area) → All (BelongsAt level) (leaves t) → All (λ (l : Placed). BelongsAt level l.leaf) (leaves_of t area)
-placed_kinds level (Tip leaf) area kinds = All-cons (λ (l : Placed). BelongsAt level l.leaf) (record { leaf = leaf; area = area }) [] (All-head (BelongsAt level) leaf [] kinds) (All-nil (λ (l : Placed). BelongsAt level l.leaf))
-placed_kinds level (Cut axis value left right) area kinds =
-    All-append (λ (l : Placed). BelongsAt level l.leaf) (leaves_of left (side_below area axis value)) (leaves_of right (side_from area axis value))
-    (placed_kinds level left (side_below area axis value) (All-front (BelongsAt level) (leaves left) (leaves right) kinds))
-    (placed_kinds level right (side_from area axis value) (All-behind (BelongsAt level) (leaves left) (leaves right) kinds))
-
 pub kind_at : (meta : Meta) (page : LivePage) (p : List ℕ) (l : Placed) → FitsFile meta page → leaf_at page p ≡ Some l → BelongsAt page.level l.leaf
-kind_at meta page p l made there = first_has (λ (l : Placed). BelongsAt page.level l.leaf) p (leaves_of page.frag page.area) l there (placed_kinds page.level page.frag page.area made.filled.kinds)
+kind_at meta page p l made there = first_has (λ (l : Placed). BelongsAt page.level l.leaf) p (leaves_of page.frag page.area) l there (placed_all (BelongsAt page.level) page.frag page.area made.filled.kinds)
 
 -- ---- a number is taken for a page that is made
 

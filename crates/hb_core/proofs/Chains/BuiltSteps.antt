@@ -1,11 +1,11 @@
 -- A step is built: the machine after a deed, and that the deed is done so.
-use Rattle.std.proofs.Common.{◌≡◌, ◌≢◌, inl, inr, ℕ, nat_le, ◌<◌, ◌≤◌, ◌++◌, false, List, [], ◌∷◌, Contains, length, get_or, Option, Some, None, IfSome, IsSome, IsSomeAnd, IsTrue, refl, sym, ap, ◌∙◌, subst, arith, map}
+use Rattle.std.proofs.Common.{◌≡◌, ◌≢◌, inl, inr, ℕ, nat_le, ◌<◌, ◌≤◌, ◌++◌, false, List, [], ◌∷◌, Contains, length, get_or, Option, Some, None, IfSome, IsSomeAnd, IsTrue, refl, sym, ap, ◌∙◌, subst, arith, map}
 use mathlib.Core.Path.{fun_ext}
-use Rattle.std.proofs.lemmas.Bool.{leb-true, false≢true}
+use Rattle.std.proofs.lemmas.Bool.{leb-true}
 use Rattle.std.specs.Prelude.{◌||◌, ◌+◌, ◌*◌, ◌%◌}
 use Rattle.std.specs.FinMap as finite
 use Rattle.hb_space.specs.declared.form.TheConstants.{PAGE}
-use Rattle.std.specs.Option.{option_and_then}
+use Rattle.std.specs.Option.{option_and_then, option_to_list}
 use Rattle.hb_frag.specs.declared.pages.LivePage.{LivePage}
 use Rattle.hb_frag.specs.declared.pages.Page.{Page}
 use Rattle.hb_ops.specs.declared.operations.Op.{Op}
@@ -24,8 +24,7 @@ use Rattle.hb_activity.specs.Wanting.{wanted_of}
 use Rattle.hb_core.proofs.Chains.WrittenTables.{add_numbers, add_pages, among_in_log, entry_at, grants, hinders, is_another, is_clear, is_earlier, map_has, mode_in, pages_set, relatched, relatches, set_all, set_entry, set_has, standing_set, among_pages}
 use Rattle.hb_core.specs.Acting.{takes_number}
 use Rattle.hb_core.specs.Asking.{AskedBox, HasAskedBox, HasWayFree, asked_box, looked_page, wanted_by}
-use Rattle.hb_core.specs.Fetching.{Brings}
-use Rattle.hb_core.specs.Machines.{Files, if_some, live_here, Machine}
+use Rattle.hb_core.specs.Machines.{Files, live_here}
 use Rattle.hb_core.specs.Performing.{DoesOp, MayDo, Performs, Relatches, files_after, given_by, ChangesQueue, outcome_of, PerformsAsItIs, latches_held}
 use Rattle.hb_core.specs.Rows.{IsAtHand, Row}
 use Rattle.hb_core.specs.Scenes.{Scene, machine_of, standing, store_of, uses_in}
@@ -47,6 +46,7 @@ use Rattle.hb_core.specs.Using.{is_changed, page_wanted, pages_of, use_done, use
 use Rattle.hb_pool.specs.Frames.{Use}
 use Rattle.hb_pool.specs.Pools.{places}
 use Rattle.hb_store.specs.Held.{IsTied}
+use Rattle.hb_core.proofs.Running.Brought.{brings_none}
 
 -- ---- what a scene's store answers
 
@@ -162,7 +162,7 @@ after pages actor deed jobs s = let t = once_done deed.op s in record t {
   at_work = set_entry actor deed.next s.at_work;
   latched = relatched actor (held_in t deed.next) s.latched;
   jobs = jobs;
-  order = s.order ++ if_some deed.joins;
+  order = s.order ++ option_to_list deed.joins;
   pages = pages;
 }
 
@@ -275,17 +275,6 @@ granted s actor (Some w) clear = grants actor w.page w.mode s.latched clear
 pub way_free : (s : Scene) (actor : ℕ) → IsClearIn s actor → HasWayFree (machine_of s) actor
 way_free s actor clear = subst (λ (o : Option Wanted). IfSome o (λ w. IsGrantable (finite.from_entries s.latched) actor w.page w.mode)) (sym (wanted_is s actor)) (granted s actor (wanted_in s actor) clear)
 
--- no page has to come
-pub nothing_comes : (m : Machine) (may : ℕ → Type 0) → Brings m may m.store
-nothing_comes m may = record {
-  rest = refl;
-  stays = λ id must there. refl;
-  others = λ id there. inl refl;
-  only = λ id none there. absurd (false≢true (subst (λ (o : Option Page). IsSome o) none there));
-  good = λ id page there. inl there;
-  told = λ id page none there. absurd (let no : ⊥ = cc in no);
-}
-
 -- what came and is pinned then
 abbrev pub came_in : Scene → ℕ → Option Op → List Use
 came_in s actor op = use_number (takes_number op) s.meta (use_wanted (wanted_in s actor) (uses_in s))
@@ -315,7 +304,7 @@ works s pages actor deed jobs clear ready row queue may used came =
       inl (record {
         fetched = store_of s;
         deed = deed;
-        brings = nothing_comes _ _;
+        brings = brings_none _ _ _ refl;
         row = subst (λ (o : Option Wanted). Row (standing s.at_work actor) o (machine_of s) deed) (sym (wanted_is s actor)) row;
         performs = done.0;
         came = done.1 ∙ came_is s actor deed.op;

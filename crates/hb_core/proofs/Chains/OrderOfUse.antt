@@ -7,7 +7,7 @@ use Rattle.std.specs.Cmp.{nat_cmp_total, unsigned_tied}
 use Rattle.std.specs.Ordering.{nat_cmp}
 use Rattle.std.specs.FinMap as map
 use Rattle.std.specs.FinSet as set
-use Rattle.std.proofs.lemmas.Bool.{cases_Bool, eqb-true, leb-true, not-true}
+use Rattle.std.proofs.lemmas.Bool.{cases_Bool, eqb-true, leb-true, not-true, and_right}
 use Rattle.std.proofs.lemmas.List.Elements.{All-from_recursion}
 use Rattle.std.proofs.lemmas.List.Sums.{sum_by-cons}
 use Rattle.hb_lemmas.proofs.Options.{none_so}
@@ -238,12 +238,8 @@ or_right true true a apart = absurd (apart refl refl)
 or_right true false a apart = refl
 or_right false c a apart = refl
 
-and_none : (b : Bool) → false ≡ (b && false)
-and_none true = refl
-and_none false = refl
-
 among_without : (id : ℕ) (ns : List ℕ) (q : ℕ) → is_among q (without id ns) ≡ (not (q == id) && is_among q ns)
-among_without id [] q = and_none (not (q == id))
+among_without id [] q = sym (and_right (not (q == id)) false refl)
 among_without id (n ∷ ns) q = elim (cases_Bool (n == id)) [
   | inl here ↦
       ap (λ (b : Bool). is_among q (cond b (without id ns) (n ∷ without id ns))) here

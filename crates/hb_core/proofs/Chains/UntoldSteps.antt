@@ -15,10 +15,11 @@ use Rattle.hb_core.specs.declared.outcomes.Outcome.TheVariants as outcomes
 use Rattle.hb_activity.specs.BoxLocks.{lock_of_command}
 use Rattle.hb_point.specs.SessionRows.{taking}
 use Rattle.hb_set.specs.declared.scripts.Line.{Line}
-use Rattle.hb_core.proofs.Chains.BuiltSteps.{IsClearIn, IsUsedAsItIs, MayBeIn, after_as_it_is, memory_is, nothing_comes, pages_held, pages_held_are, performed_using, wanted_in, wanted_is, way_free}
+use Rattle.hb_core.proofs.Chains.BuiltSteps.{IsClearIn, IsUsedAsItIs, MayBeIn, after_as_it_is, memory_is, pages_held, pages_held_are, performed_using, wanted_in, wanted_is, way_free}
 use Rattle.hb_core.proofs.Chains.TakenLines.{NoneLocksOut, box_free}
 use Rattle.hb_core.proofs.Chains.WrittenTables.{entry_at}
 use Rattle.hb_store.specs.Fetching.{IsNoPage}
+use Rattle.hb_core.proofs.Running.Brought.{brings_none}
 
 none_told : (op : Option Op) → ◌≡◌ {A = Option Files} None (files_after op None)
 none_told None = refl
@@ -68,7 +69,7 @@ reads_not s actor id jobs clear ready wants page absent queue may used =
       inr (inl (record {
         why = drops.ReadFault;
         fetched = store_of s;
-        brings = nothing_comes _ _;
+        brings = brings_none _ _ _ refl;
         cause = (id, inl (subst (λ (o : Option Wanted). IsWantedPage o id) (sym (wanted_is s actor)) wants), page, memory_is s id ∙ absent);
         performs = done.0;
         came = inl done.1;

@@ -1,13 +1,14 @@
 -- Tables that are written down as lists: what they answer, and what they are after a change.
-use Rattle.std.proofs.Common.{◌≡◌, ◌≢◌, inl, inr, ℕ, ◌==◌, Bool, true, false, cond, not, List, [], ◌∷◌, ◌++◌, Option, Some, None, IfSome, IsSome, IsSomeAnd, IsTrue, refl, sym, ap, ◌∙◌, subst, ne_eqb}
+use Rattle.std.proofs.Common.{◌≡◌, ◌≢◌, inl, inr, ℕ, ◌==◌, Bool, true, false, cond, not, List, [], ◌∷◌, ◌++◌, Option, Some, None, IfSome, IsSome, IsSomeAnd, IsTrue, refl, sym, ap, ◌∙◌, subst, ne_eqb, nat_eq}
 use mathlib.Core.Path.{fun_ext}
 use Rattle.std.specs.Prelude.{◌&&◌, ◌||◌, if◌then◌else◌, nat_lt}
-use Rattle.std.proofs.lemmas.Bool.{cases_Bool, eqb-true, eqb-false, eq-eqb, lt-ltb}
-use Rattle.std.specs.List.{AllByRecursion, list_any}
-use Rattle.std.specs.Ordering.{nat_cmp, eq_by_cmp, is_eq, ordering_then}
+use Rattle.std.proofs.lemmas.Bool.{cases_Bool, eqb-true, eqb-false, eq-eqb, lt-ltb, and_parts}
+use Rattle.std.specs.List.{AllByRecursion}
+use Rattle.std.specs.Ordering.{nat_cmp, is_eq, ordering_then}
 use Rattle.std.specs.Cmp.{nat_cmp_total, unsigned_tied}
 use Rattle.std.specs.declared.cmp.Ordering.{Ordering}
 use Rattle.std.specs.declared.cmp.Ordering.TheVariants.{Less, Equal, Greater}
+use Rattle.std.specs.Map.{lookup}
 use Rattle.std.specs.FinMap as map
 use Rattle.std.specs.FinSet as set
 use Rattle.std.proofs.lemmas.Option.{same_Some}
@@ -25,25 +26,21 @@ use Rattle.hb_latch.specs.Tables.{IsGrantable, IsLeastInTheWay, latch_cmp, mode_
 use Rattle.hb_store.specs.Replay.{is_among}
 use Rattle.hb_ops.specs.SetPages.{set_pages, has_page}
 use Rattle.hb_core.proofs.Facts.NextLines.{or_assoc}
+use Rattle.hb_lemmas.proofs.Maps.{any_same, get-from_list}
 
 -- ---- by numbers
 
 abbrev pub entry_at : {X : Type 0} → ℕ → List (ℕ × X) → Option X
-entry_at q [] = None
-entry_at q (one ∷ rest) = if q == one.0 then Some one.1 else entry_at q rest
+entry_at q es = lookup (nat_eq q) es
 
 -- a list with another entry under a number, in the place of the one that is there
 abbrev pub set_entry : {X : Type 0} → ℕ → X → List (ℕ × X) → List (ℕ × X)
 set_entry k x [] = (k, x) ∷ []
 set_entry k x (one ∷ rest) = if one.0 == k then (k, x) ∷ rest else one ∷ set_entry k x rest
 
-found : {X : Type 0} (es : List (ℕ × X)) (q : ℕ) → map.find nat_cmp q es ≡ entry_at q es
-found [] q = refl
-found (e ∷ es) q = λ i. cond (unsigned_tied q e.0 i) (Some e.1) (found es q i)
-
 -- the map of a list
 pub map_has : {X : Type 0} (es : List (ℕ × X)) (q : ℕ) → map.get (map.from_entries {R = nat_cmp} es) q ≡ entry_at q es
-map_has es q = map.get-from_entries nat_cmp_total es q ∙ found es q
+map_has es q = get-from_list es q
 
 pub shadowed : {A : Type 0} (b : Bool) (x y z : A) → cond b x z ≡ cond b x (cond b y z)
 shadowed true x y z = refl
@@ -145,13 +142,9 @@ abbrev pub add_pages : List (ℕ × Page) → List ℕ → List ℕ
 add_pages [] ns = ns
 add_pages (one ∷ rest) ns = add_number one.0 (add_pages rest ns)
 
-any_among : (ks : List ℕ) (q : ℕ) → list_any (eq_by_cmp nat_cmp q) ks ≡ is_among q ks
-any_among [] q = refl
-any_among (k ∷ ks) q = λ i. unsigned_tied q k i || any_among ks q i
-
 -- the set of a list
 pub set_has : (ks : List ℕ) (q : ℕ) → set.contains (set.from_list {R = nat_cmp} ks) q ≡ is_among q ks
-set_has ks q = set.contains-from_list nat_cmp_total ks q ∙ any_among ks q
+set_has ks q = set.contains-from_list nat_cmp_total ks q ∙ any_same ks q
 
 or_same : (b c : Bool) → (b ≡ true → c ≡ true) → c ≡ (b || c)
 or_same true c so = so refl
@@ -264,12 +257,10 @@ is_clear asked page mode [] = true
 is_clear asked page mode (one ∷ rest) = (not (asked one.0.0) || (not (page == one.0.1) || goes_beside mode one.1)) && is_clear asked page mode rest
 
 pub and_first : (a b : Bool) → IsTrue (a && b) → IsTrue a
-and_first true b e = refl
-and_first false b e = e
+and_first a b both = (and_parts a b both).0
 
 pub and_second : (a b : Bool) → IsTrue (a && b) → IsTrue b
-and_second true b e = e
-and_second false b e = absurd (let no : ⊥ = cc in no)
+and_second a b both = (and_parts a b both).1
 
 left_off : (a b : Bool) → a ≡ true → IsTrue (not a || b) → IsTrue b
 left_off true b is e = e

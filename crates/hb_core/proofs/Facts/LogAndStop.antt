@@ -16,8 +16,9 @@ use Rattle.hb_ops.specs.Operations.{IsAllowedOn, change_of}
 use Rattle.hb_ops.specs.declared.operations.Op.{Op}
 use Rattle.hb_ops.specs.declared.operations.Op.TheVariants.{Del, Extract, Grow, Merge, Post, Put}
 use Rattle.hb_store.specs.Calls.{read_here}
-use Rattle.hb_store.specs.States.{StoreState}
+use Rattle.hb_store.specs.States.{StoreState, IsSameLayout}
 use Rattle.hb_store.specs.declared.stops.StopWhy.{StopWhy}
+use Rattle.hb_store.proofs.Facts.Changed.{same_size}
 
 -- nothing but what the step says has stopped the machine
 abbrev pub SaysStop : Machine → Outcome → Machine → Type 0
@@ -27,25 +28,26 @@ pub record StepTells (m : Machine) (outcome : Outcome) (new : Machine) : Type 0 
   pub size : file_size new.store.meta ≡ file_size m.store.meta
   pub stop : SaysStop m outcome new
 
-size_of_change : (op : Op) (meta : Meta) (first second third : Option LivePage) → IsAllowedOn op meta first second third → file_size (change_of op meta first second third).meta ≡ file_size meta
-size_of_change (Put id rec) meta None second third allowed = absurd allowed
-size_of_change (Put id rec) meta (Some page) second third allowed = refl
-size_of_change (Del id point) meta None second third allowed = absurd allowed
-size_of_change (Del id point) meta (Some page) second third allowed = refl
-size_of_change (Extract source fresh path cuts free_after) meta None second third allowed = absurd allowed
-size_of_change (Extract source fresh path cuts free_after) meta (Some page) second third allowed = refl
-size_of_change (Post parent at inner area) meta None second third allowed = absurd allowed
-size_of_change (Post parent at inner area) meta (Some page) second third allowed = refl
-size_of_change (Merge parent keep gone) meta None second third allowed = absurd allowed
-size_of_change (Merge parent keep gone) meta (Some above) None third allowed = absurd allowed
-size_of_change (Merge parent keep gone) meta (Some above) (Some kept) None allowed = absurd allowed
-size_of_change (Merge parent keep gone) meta (Some above) (Some kept) (Some going) allowed = refl
-size_of_change (Grow fresh free_after) meta first second third allowed = refl
+-- no operation changes the layout
+pub layout_of_change : (op : Op) (meta : Meta) (first second third : Option LivePage) → IsAllowedOn op meta first second third → IsSameLayout meta (change_of op meta first second third).meta
+layout_of_change (Put id rec) meta None second third allowed = absurd allowed
+layout_of_change (Put id rec) meta (Some page) second third allowed = record { k = refl; pages = refl; log = refl; dcap = refl; icap = refl }
+layout_of_change (Del id point) meta None second third allowed = absurd allowed
+layout_of_change (Del id point) meta (Some page) second third allowed = record { k = refl; pages = refl; log = refl; dcap = refl; icap = refl }
+layout_of_change (Extract source fresh path cuts free_after) meta None second third allowed = absurd allowed
+layout_of_change (Extract source fresh path cuts free_after) meta (Some page) second third allowed = record { k = refl; pages = refl; log = refl; dcap = refl; icap = refl }
+layout_of_change (Post parent at inner area) meta None second third allowed = absurd allowed
+layout_of_change (Post parent at inner area) meta (Some page) second third allowed = record { k = refl; pages = refl; log = refl; dcap = refl; icap = refl }
+layout_of_change (Merge parent keep gone) meta None second third allowed = absurd allowed
+layout_of_change (Merge parent keep gone) meta (Some above) None third allowed = absurd allowed
+layout_of_change (Merge parent keep gone) meta (Some above) (Some kept) None allowed = absurd allowed
+layout_of_change (Merge parent keep gone) meta (Some above) (Some kept) (Some going) allowed = record { k = refl; pages = refl; log = refl; dcap = refl; icap = refl }
+layout_of_change (Grow fresh free_after) meta first second third allowed = record { k = refl; pages = refl; log = refl; dcap = refl; icap = refl }
 
 size_by_op : (op : Option Op) (mark : ℕ) (old fetched new : StoreState) → fetched.meta ≡ old.meta → MayDo op mark fetched new → file_size new.meta ≡ file_size old.meta
 size_by_op None mark old fetched new meta does = ap (λ (st : StoreState). file_size st.meta) does ∙ ap file_size meta
 size_by_op (Some op) mark old fetched new meta does =
-    ap file_size does.commits.meta ∙ size_of_change op fetched.meta (read_here fetched op 0) (read_here fetched op 1) (read_here fetched op 2) does.allowed ∙ ap file_size meta
+    ap file_size does.commits.meta ∙ same_size fetched.meta _ (layout_of_change op fetched.meta (read_here fetched op 0) (read_here fetched op 1) (read_here fetched op 2) does.allowed) ∙ ap file_size meta
 
 module _ (m : Machine) (actor : ℕ) (outcome : Outcome) (new : Machine) where
   stays : (said : Outcome) → StaysSo m said outcome new → StepTells m outcome new

@@ -1,5 +1,5 @@
 -- Over a disk that tells no step meets a damaged page.
-use Rattle.std.proofs.Common.{◌≡◌, ◌≢◌, ◌⊎◌, inl, inr, ℕ, ◌-◌, ◌<◌, true, List, [], ◌∷◌, Option, Some, None, IfSome, IsTrue, refl, sym, ap, ◌∙◌, subst, arith}
+use Rattle.std.proofs.Common.{◌≡◌, ◌≢◌, ◌⊎◌, inl, inr, ℕ, ◌-◌, ◌<◌, List, [], ◌∷◌, Option, Some, None, IfSome, IsTrue, refl, sym, ap, ◌∙◌, subst, arith}
 use Rattle.std.proofs.lemmas.Option.{same_Some}
 use Rattle.std.specs.Option.{option_and_then, option_map}
 use Rattle.std.proofs.lemmas.List.Elements.{All-head}
@@ -27,7 +27,7 @@ use Rattle.hb_core.proofs.TwoSteps.OneOutcome.{outcome_is_one, state_is_one}
 use Rattle.hb_core.proofs.Files.SoundFiles.{FilesHold, brought_shown, current_sound, files_hold}
 use Rattle.hb_core.proofs.Facts.StepKinds.{each_kind, FlushesMore, ready_kind}
 use Rattle.hb_core.specs.Acting.{IsBadWanted, MeetsBadPage, NeedsNumber}
-use Rattle.hb_core.specs.Asking.{AskedBox, HasAskedBox, IsNotAsked, asked_box, box_at, box_of_child, looked_live, wanted_by}
+use Rattle.hb_core.specs.Asking.{AskedBox, HasAskedBox, IsNotAsked, asked_box, box_at, box_of_child, looked_live, this_box, wanted_by}
 use Rattle.hb_core.specs.DamageLaws.{IsRefusedOrFails, IsUndamaged, KeptStepIsOne, NoPageIsDamaged, StaysUndamaged}
 use Rattle.hb_core.specs.Fetching.{Brings, IsBadHead, IsBadRead, IsDamaged}
 use Rattle.hb_core.specs.Forcing.{ForcesAll, StaysSo}
@@ -135,9 +135,6 @@ module _ (m : Machine) (files : Files) (actor : ℕ) (may : IsActor actor) (fit 
   walk_page : (held : ℕ) → walk_held (m.activity actor) ≡ Some held → (page : LivePage) × (live_here m.store held ≡ Some page)
   walk_page held is = let one = fit.walking actor held may is in (one.0, ap if_live one.1)
 
-  abbrev Asks : Activity → Wanted → AskedBox → Type 0
-  Asks activity wanted asked = (wanted_of activity m.store.meta (looked_live m.store activity) ≡ Some wanted) × (asked_box activity fetched ≡ Some asked)
-
   -- the child at the point, of a parent that a poster holds
   at_parent : (job : Job) (parent : ℕ) (wanted : Wanted) (asked : AskedBox) (page : LivePage) → live_here m.store parent ≡ Some page
       → in_mode (λ level. Shared) (option_and_then (λ (page : LivePage). child_of page job.point) (live_here m.store parent)) ≡ Some wanted → box_at (live_here fetched parent) (Some job.point) ≡ Some asked → IsThere (current_file files) wanted asked
@@ -154,7 +151,7 @@ module _ (m : Machine) (files : Files) (actor : ℕ) (may : IsActor actor) (fit 
       (still_asked id one.0 one.1 (some_of_then _ (live_here fetched id) asked asks)) wants asks
 
   walk_begins : (goal : Option (List ℕ)) (mode : ℕ → Mode) (wanted : Wanted) (asked : AskedBox) → in_mode mode (walk_next goal None m.store.meta None) ≡ Some wanted
-      → Some (record { area = whole_area fetched.meta.k; exact = true }) ≡ Some asked → IsThere (current_file files) wanted asked
+      → Some (this_box (whole_area fetched.meta.k)) ≡ Some asked → IsThere (current_file files) wanted asked
   walk_begins goal mode wanted asked wants asks = begun_there (current_file files) (file_sound m files has) mode m.store.meta fetched.meta.k goal None wanted asked meta same_k wants asks
 
   -- a child of the parent that a consolidator holds
@@ -180,7 +177,7 @@ module _ (m : Machine) (files : Files) (actor : ℕ) (may : IsActor actor) (fit 
   there (at.ConsolidatorWalk job (Some id)) wanted asked is wants asks = walk_on id (Some job.point) (job_mode job) wanted asked (ap walk_held is) wants asks
   there (at.PosterGrow job) wanted asked is wants asks =
       root_there (current_file files) (file_sound m files has) m.store.meta fetched.meta.k (m.store.meta.height - 1) Exclusive wanted asked meta same_k refl
-      (same_Some (wanted_page m.store.meta.root (m.store.meta.height - 1) Exclusive) wanted wants) (same_Some (record { area = whole_area fetched.meta.k; exact = true }) asked asks)
+      (same_Some (wanted_page m.store.meta.root (m.store.meta.height - 1) Exclusive) wanted wants) (same_Some (this_box (whole_area fetched.meta.k)) asked asks)
   there (at.PosterChild job parent) wanted asked is wants asks = let one = walks.parents actor job parent (inl is) in at_parent job parent wanted asked one.0 one.1 wants asks
   there (at.PosterAgain job parent) wanted asked is wants asks = let one = walks.parents actor job parent (inr (inr is)) in at_parent job parent wanted asked one.0 one.1 wants asks
   there (at.ConsolidatorScan job parent child) wanted asked is wants asks = by_child parent child Shared (live_here m.store parent) wanted asked refl wants asks

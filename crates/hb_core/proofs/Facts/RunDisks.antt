@@ -1,6 +1,6 @@
 -- What a step leaves of the disk: only the file may read otherwise, and at each of its moments a crash leaves the durable file
 -- or the last one.
-use Rattle.std.proofs.Common.{◌≡◌, inl, inr, ℕ, zero, suc, ◌+◌, ◌*◌, ◌%◌, ◌≤◌, true, List, Option, Some, None, IsSome, refl, sym, ap, ◌∙◌, subst, arith}
+use Rattle.std.proofs.Common.{◌≡◌, inl, inr, ℕ, ◌+◌, ◌≤◌, true, List, Option, Some, None, IsSome, refl, sym, ap, ◌∙◌, subst, arith}
 use Rattle.std.specs.Option.{is_some}
 use Rattle.hb_core.proofs.Machines.FlushedFrames.{dirty_frame}
 use Rattle.hb_core.specs.KeptMachine.{MachineKeeps}
@@ -15,7 +15,7 @@ use Rattle.hb_disk.proofs.Facts.TornLaws.{Torn-itself, Torn-twice, Torn-wider}
 use Rattle.hb_disk.specs.Calls.{Becomes, Leaves, Then}
 use Rattle.hb_disk.specs.Model.{DiskModel, IsDisk, Torn}
 use Rattle.hb_lemmas.proofs.Options.{has_value, not_none, some_value}
-use Rattle.hb_layout.specs.Offsets.{file_size, log_start, page_offset, slot_offset}
+use Rattle.hb_layout.specs.Offsets.{file_size, log_start, page_offset}
 use Rattle.hb_layout.specs.declared.meta.Meta.{Meta}
 use Rattle.hb_ops.specs.Files.{FileState}
 use Rattle.hb_pool.specs.Frames.{Use}
@@ -26,6 +26,8 @@ use Rattle.hb_store.specs.States.{StoreState, in_memory}
 use Rattle.hb_store.specs.Switching.{TornSwitch}
 use Rattle.hb_store.specs.Keeps.{OpensToEither, PartsOpen, StoreKeeps}
 use Rattle.std.proofs.lemmas.Option.{same_Some}
+use Rattle.hb_layout.proofs.Facts.Parts.{front_within, log_within, page_within}
+use Rattle.hb_store.proofs.Facts.PlaceWrites.{switch_within}
 
 -- ---- only bytes of the file are other ones
 
@@ -41,29 +43,12 @@ written_there m id keeps oldest =
     let most = keeps.meta_within_limits.high in
     (low, omega (arith, high, most))
 
-page_inside : (meta : Meta) (id : ℕ) → 1 ≤ id → id ≤ meta.pages → page_offset meta id + PAGE ≤ 0 + file_size meta
-page_inside meta id some most = omega (arith, some, most)
-
-log_inside : (turn : ℕ) (meta : Meta) → log_start turn meta + meta.log ≤ 0 + file_size meta
-log_inside turn meta = by (turn % 2) (omega arith)
-  where
-    by : (n : ℕ) → n ≤ 1 → 8192 + n * meta.log + meta.log ≤ 0 + file_size meta
-    by zero few = omega arith
-    by (suc zero) few = omega arith
-    by (suc (suc n)) few = absurd (omega (arith, few))
-
-place_inside : (turn : ℕ) (meta : Meta) → slot_offset turn + 41 ≤ 0 + file_size meta
-place_inside turn meta = by (turn % 2) (omega arith)
-  where
-    by : (n : ℕ) → n ≤ 1 → 4096 * n + 41 ≤ 0 + file_size meta
-    by n few = omega (arith, few)
+log_inside : (turn : ℕ) (meta : Meta) → log_start turn meta + meta.log ≤ file_size meta
+log_inside turn meta = let low = log_within turn 1 meta in let front = front_within meta in omega (arith, low, front)
 
 -- the other log area and the other superblock's place lie in the file
 turn_inside : (turn : ℕ) (meta : Meta) (b c : List ℕ) → TornSwitch turn meta b c → Torn 0 (file_size meta) b c
-turn_inside turn meta b c torn =
-    Torn-twice 0 (file_size meta) b torn.between c
-    (Torn-wider _ meta.log 0 (file_size meta) b torn.between (omega arith) (log_inside _ meta) torn.area)
-    (Torn-wider _ 41 0 (file_size meta) torn.between c (omega arith) (place_inside _ meta) torn.place)
+turn_inside turn meta b c torn = Torn-wider 0 (page_offset meta 1) 0 (file_size meta) b c (omega arith) (omega (arith, front_within meta)) (switch_within turn meta b c torn)
 
 pub file_touched : (e f : DiskModel) (old new : RunningCore) (outcome : Outcome) (m : Machine) → IsDisk e → MachineKeeps m → m.store ≡ old.store → m.uses ≡ old.uses → Touches e old outcome f new → Becomes (ChangesFile m.store) e f
 file_touched e f old new outcome m disk keeps store used (inl reads) = Becomes-read (ChangesFile m.store) e f disk (λ b bytes. Torn-itself 0 (file_size m.store.meta) b bytes) reads.only.stays
@@ -77,7 +62,7 @@ file_touched e f old new outcome m disk keeps store used (inr (inl force)) =
 file_touched e f old new outcome m disk keeps store used (inr (inr (inl home))) =
     let there = written_there m home.page keeps (ap oldest_dirty used ∙ home.oldest) in
     Becomes-weaker (Torn (page_offset m.store.meta home.page) PAGE) (ChangesFile m.store) e f
-    (λ b c torn. Torn-wider (page_offset m.store.meta home.page) PAGE 0 (file_size m.store.meta) b c (omega arith) (page_inside m.store.meta home.page there.0 there.1) torn)
+    (λ b c torn. Torn-wider (page_offset m.store.meta home.page) PAGE 0 (file_size m.store.meta) b c (omega arith) (omega (arith, page_within home.page m.store.meta there.0 there.1)) torn)
     (subst (λ (st : StoreState). Becomes (Torn (page_offset st.meta home.page) PAGE) e f) (sym store) home.writes.wrote.became)
 file_touched e f old new outcome m disk keeps store used (inr (inr (inr turns))) =
     Becomes-weaker (TornSwitch m.store.turn m.store.meta) (ChangesFile m.store) e f (turn_inside m.store.turn m.store.meta)

@@ -18,12 +18,13 @@ use Rattle.hb_core.proofs.Orders.Sequences.{waits_none}
 use Rattle.hb_core.proofs.Facts.Ways.{KeepsAllButDisk, same_answers, same_order, forces_so, meets_so, more_so, stays_so}
 use Rattle.hb_core.specs.KeptOrder.{StandsOutside}
 use Rattle.hb_core.specs.KeptSequence.{LinesInSequence, awaited_number}
-use Rattle.hb_core.specs.Machines.{Machine, if_some}
+use Rattle.hb_core.specs.Machines.{Machine}
 use Rattle.hb_core.specs.Performing.{Performs, given_by, outcome_of}
 use Rattle.hb_core.specs.Steps.{StepsTo, Works}
 use Rattle.hb_point.specs.SessionRows.{next_line}
 use Rattle.hb_set.specs.Order.{Entry}
 use Rattle.hb_store.specs.States.{StoreState}
+use Rattle.std.specs.Option.{option_to_list}
 
 -- who waits for a place waited for it before
 abbrev pub AwaitsAsBefore : Machine → Machine → Type 0
@@ -113,7 +114,7 @@ module _ (m : Machine) (actor : ℕ) (outcome : Outcome) (new : Machine) (sequen
     next = hand_is_next takes.line takes.hand;
     none_awaited = none;
     inside = takes.inside;
-    order = performs.order ∙ ap (λ (o : Option Entry). m.order ++ if_some o) takes.joins;
+    order = performs.order ∙ ap (λ (o : Option Entry). m.order ++ option_to_list o) takes.joins;
     answered = same_answers m actor outcome new fetched deed performs (takes.quiet m.clock);
     awaits = joins_or fetched deed takes.line takes.reply (length m.order) performs takes.next;
   }))

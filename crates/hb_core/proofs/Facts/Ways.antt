@@ -10,7 +10,7 @@ use Rattle.hb_core.specs.Acting.{MeetsBadPage}
 use Rattle.hb_core.specs.Fetching.{MustStay}
 use Rattle.hb_core.specs.Forcing.{BeginsTurn, FailsToWrite, ForcesAll, StaysSo, WritesOldest}
 use Rattle.hb_core.specs.Laws.{OrderGrows, OthersStay}
-use Rattle.hb_core.specs.Machines.{Machine, if_some, with_activity}
+use Rattle.hb_core.specs.Machines.{Machine, with_activity}
 use Rattle.hb_core.specs.Performing.{Performs, given_by, outcome_of, MayDo}
 use Rattle.hb_core.specs.Steps.{Works, StepsTo}
 use Rattle.hb_latch.specs.Tables.{LatchTable, mode_at}
@@ -19,6 +19,7 @@ use Rattle.hb_store.specs.States.{StoreState, in_memory}
 use Rattle.hb_set.specs.declared.scripts.Answered.{Answered}
 use Rattle.hb_lemmas.proofs.Booleans.{at_itself, at_other}
 use Rattle.hb_ops.specs.declared.operations.Op.{Op}
+use Rattle.std.specs.Option.{option_to_list}
 
 -- where nothing is done, the memory is what was fetched
 pub nothing_done : (op : Option Op) (mark : ℕ) (fetched new : StoreState) → op ≡ None → MayDo op mark fetched new → new ≡ fetched
@@ -50,7 +51,7 @@ HasWay m actor outcome new = KeepsAllButDisk m new ⊎ ((fetched : StoreState) �
 module _ (m : Machine) (actor : ℕ) (outcome : Outcome) (new : Machine) where
   -- a deed by which no line joins the order, and one that answers none
   pub same_order : (fetched : StoreState) (deed : Deed) → Performs m fetched actor deed outcome new → deed.joins ≡ None → new.order ≡ m.order
-  same_order fetched deed performs none = performs.order ∙ ap (λ (o : Option Entry). m.order ++ if_some o) none ∙ append-nil m.order
+  same_order fetched deed performs none = performs.order ∙ ap (λ (o : Option Entry). m.order ++ option_to_list o) none ∙ append-nil m.order
 
   pub same_answers : (fetched : StoreState) (deed : Deed) → Performs m fetched actor deed outcome new → given_by (outcome_of deed.says) m.clock ≡ [] → new.answered ≡ m.answered
   same_answers fetched deed performs none = performs.answered ∙ ap (λ (l : List Answered). m.answered ++ l) none ∙ append-nil m.answered
@@ -117,7 +118,7 @@ others_stay m actor outcome new step other another = by (way_of m actor outcome 
 
 -- ---- and the order grows by one entry at most
 
-joined_by : (order : List Entry) (joins : Option Entry) (new : List Entry) → new ≡ order ++ if_some joins → (new ≡ order) ⊎ ((entry : Entry) × (new ≡ order ++ entry ∷ []))
+joined_by : (order : List Entry) (joins : Option Entry) (new : List Entry) → new ≡ order ++ option_to_list joins → (new ≡ order) ⊎ ((entry : Entry) × (new ≡ order ++ entry ∷ []))
 joined_by order None new is = inl (is ∙ append-nil order)
 joined_by order (Some entry) new is = inr (entry, is)
 

@@ -1,9 +1,9 @@
 -- What a step asks for is in a sound file: a page in use, of the level and the box that are asked for.
-use Rattle.std.proofs.Common.{◌≡◌, ℕ, zero, suc, ◌-◌, ◌==◌, IsTrue, true, false, cond, List, [], ◌∷◌, map, Option, Some, None, refl, sym, ap, ◌∙◌, subst, arith}
+use Rattle.std.proofs.Common.{◌≡◌, ℕ, suc, ◌-◌, ◌==◌, IsTrue, true, false, cond, List, [], ◌∷◌, Option, Some, None, refl, sym, ap, ◌∙◌, subst, arith}
 use Rattle.std.specs.List.{Contains, slice_get}
 use Rattle.std.specs.Option.{option_and_then, option_map}
 use Rattle.std.proofs.lemmas.Bool.{eqb-true}
-use Rattle.hb_lemmas.proofs.Lists.{place_member, later_member}
+use Rattle.hb_lemmas.proofs.Lists.{place_member, mapped_place}
 use Rattle.hb_frag.specs.declared.leaves.Leaf.{Leaf}
 use Rattle.hb_frag.specs.declared.leaves.Leaf.TheVariants.{Records, Child, Sibling}
 use Rattle.hb_frag.specs.declared.pages.LivePage.{LivePage}
@@ -13,13 +13,13 @@ use Rattle.hb_latch.specs.declared.modes.Mode.TheVariants.{Shared}
 use Rattle.hb_activity.specs.declared.wanting.Wanted.{Wanted}
 use Rattle.hb_activity.specs.Wanting.{child_of, in_mode, named_child, named_page, walk_next, wanted_page}
 use Rattle.hb_consol.specs.ConsolidatorRows.{names_child}
-use Rattle.hb_core.specs.Asking.{AskedBox, HasAskedBox, box_at, box_by_leaf, box_of_child, box_of_place, box_of_sibling, first_child_box}
+use Rattle.hb_core.specs.Asking.{AskedBox, HasAskedBox, around_box, box_at, box_by_leaf, box_of_child, box_of_place, box_of_sibling, first_child_box, this_box}
 use Rattle.hb_frag.proofs.Facts.Tiles.{leaves_placed}
-use Rattle.hb_frag.specs.Leaves.{Placed, first_at, first_named, leaf_at, leaves, leaves_of, siblings_of}
+use Rattle.hb_frag.specs.Leaves.{Placed, first_at, first_named, leaf_at, leaves, leaves_of, siblings_of, children}
 use Rattle.hb_frag.specs.Trees.{Tree}
 use Rattle.hb_ops.proofs.Facts.NamedChildren.{named_leaf}
 use Rattle.hb_ops.specs.Files.{FileState, live_page}
-use Rattle.hb_ops.proofs.Facts.PlacedLaws.{leaf_is_sibling, placed, placed_leaf}
+use Rattle.hb_ops.proofs.Facts.PlacedLaws.{leaf_is_sibling, placed, placed_leaf, listed_child}
 use Rattle.hb_ops.specs.Sound.{IsSound}
 use Rattle.hb_space.specs.Boxes.{Area, holds, whole_area}
 
@@ -50,11 +50,11 @@ module _ (s : FileState) (sound : IsSound s) where
 
   -- ---- the root
 
-  pub root_there : (m : Meta) (k level : ℕ) (mode : Mode) (wanted : Wanted) (asked : AskedBox) → s.meta ≡ m → k ≡ m.k → level ≡ m.height - 1 → wanted_page m.root level mode ≡ wanted → record { area = whole_area k; exact = true } ≡ asked → IsThere s wanted asked
+  pub root_there : (m : Meta) (k level : ℕ) (mode : Mode) (wanted : Wanted) (asked : AskedBox) → s.meta ≡ m → k ≡ m.k → level ≡ m.height - 1 → wanted_page m.root level mode ≡ wanted → this_box (whole_area k) ≡ asked → IsThere s wanted asked
   root_there m k level mode wanted asked meta is_k is_level wants asks =
       let top = sound.rooted.top in
       let height : s.meta.height ≡ m.height = ap (λ (x : Meta). x.height) meta in
-      found m.root level mode wanted (record { area = whole_area k; exact = true }) asked top.0 wants asks
+      found m.root level mode wanted (this_box (whole_area k)) asked top.0 wants asks
       (ap (live_page s) (ap (λ (x : Meta). x.root) (sym meta)) ∙ top.1) (omega (arith, top.2, height, is_level))
       (top.3 ∙ ap whole_area (ap (λ (x : Meta). x.k) meta ∙ sym is_k))
 
@@ -62,27 +62,27 @@ module _ (s : FileState) (sound : IsSound s) where
 
   module _ (id : ℕ) (page : LivePage) (live : live_page s id ≡ Some page) where
     pub child_there : (name : ℕ) (area : Area) (mode : Mode) (wanted : Wanted) (asked : AskedBox) → Contains (leaves_of page.frag page.area) (placed (Child name) area)
-        → wanted_page name (page.level - 1) mode ≡ wanted → record { area = area; exact = false } ≡ asked → IsThere s wanted asked
+        → wanted_page name (page.level - 1) mode ≡ wanted → around_box area ≡ asked → IsThere s wanted asked
     child_there name area mode wanted asked among wants asks =
         let named = sound.children id page name area live among in
-        found name (page.level - 1) mode wanted (record { area = area; exact = false }) asked named.0 wants asks named.1 (omega (arith, named.2)) named.3
+        found name (page.level - 1) mode wanted (around_box area) asked named.0 wants asks named.1 (omega (arith, named.2)) named.3
 
     pub sibling_there : (name : ℕ) (area : Area) (mode : Mode) (wanted : Wanted) (asked : AskedBox) → Contains (leaves_of page.frag page.area) (placed (Sibling name) area)
-        → wanted_page name page.level mode ≡ wanted → record { area = area; exact = true } ≡ asked → IsThere s wanted asked
+        → wanted_page name page.level mode ≡ wanted → this_box area ≡ asked → IsThere s wanted asked
     sibling_there name area mode wanted asked among wants asks =
         let named = sound.siblings id page name area live (leaf_is_sibling (leaves_of page.frag page.area) name area among) in
-        found name page.level mode wanted (record { area = area; exact = true }) asked named.0 wants asks named.1 named.2 named.3
+        found name page.level mode wanted (this_box area) asked named.0 wants asks named.1 named.2 named.3
 
     by_leaf : (mode : ℕ → Mode) (leaf : Leaf) (area : Area) (wanted : Wanted) (asked : AskedBox) → Contains (leaves_of page.frag page.area) (placed leaf area)
         → in_mode mode (named_page page.level leaf) ≡ Some wanted → box_by_leaf (placed leaf area) ≡ Some asked → IsThere s wanted asked
     by_leaf mode (Records records) area wanted asked among wants asks = cc
-    by_leaf mode (Child name) area wanted asked among wants asks = child_there name area (mode (page.level - 1)) wanted asked among (let same : wanted_page name (page.level - 1) (mode (page.level - 1)) ≡ wanted = cc in same) (let same : record { area = area; exact = false } ≡ asked = cc in same)
-    by_leaf mode (Sibling name) area wanted asked among wants asks = sibling_there name area (mode page.level) wanted asked among (let same : wanted_page name page.level (mode page.level) ≡ wanted = cc in same) (let same : record { area = area; exact = true } ≡ asked = cc in same)
+    by_leaf mode (Child name) area wanted asked among wants asks = child_there name area (mode (page.level - 1)) wanted asked among (let same : wanted_page name (page.level - 1) (mode (page.level - 1)) ≡ wanted = cc in same) (let same : around_box area ≡ asked = cc in same)
+    by_leaf mode (Sibling name) area wanted asked among wants asks = sibling_there name area (mode page.level) wanted asked among (let same : wanted_page name page.level (mode page.level) ≡ wanted = cc in same) (let same : this_box area ≡ asked = cc in same)
 
     by_child : (leaf : Leaf) (area : Area) (wanted : Wanted) (asked : AskedBox) → Contains (leaves_of page.frag page.area) (placed leaf area)
         → in_mode (λ level. Shared) (named_child page.level leaf) ≡ Some wanted → box_by_leaf (placed leaf area) ≡ Some asked → IsThere s wanted asked
     by_child (Records records) area wanted asked among wants asks = cc
-    by_child (Child name) area wanted asked among wants asks = child_there name area Shared wanted asked among (let same : wanted_page name (page.level - 1) Shared ≡ wanted = cc in same) (let same : record { area = area; exact = false } ≡ asked = cc in same)
+    by_child (Child name) area wanted asked among wants asks = child_there name area Shared wanted asked among (let same : wanted_page name (page.level - 1) Shared ≡ wanted = cc in same) (let same : around_box area ≡ asked = cc in same)
     by_child (Sibling name) area wanted asked among wants asks = cc
 
     -- where a walk goes on, and the child of a poster
@@ -112,78 +112,59 @@ module _ (s : FileState) (sound : IsSound s) where
 
   -- a walk that holds none
   pub begun_there : (mode : ℕ → Mode) (m : Meta) (k : ℕ) (goal : Option (List ℕ)) (page : Option LivePage) (wanted : Wanted) (asked : AskedBox) → s.meta ≡ m → k ≡ m.k
-      → in_mode mode (walk_next goal None m page) ≡ Some wanted → Some (record { area = whole_area k; exact = true }) ≡ Some asked → IsThere s wanted asked
+      → in_mode mode (walk_next goal None m page) ≡ Some wanted → Some (this_box (whole_area k)) ≡ Some asked → IsThere s wanted asked
   begun_there mode m k None page wanted asked meta is_k wants asks = cc
   begun_there mode m k (Some p) page wanted asked meta is_k wants asks =
       root_there m k (m.height - 1) (mode (m.height - 1)) wanted asked meta is_k refl
-      (let same : wanted_page m.root (m.height - 1) (mode (m.height - 1)) ≡ wanted = cc in same) (let same : record { area = whole_area k; exact = true } ≡ asked = cc in same)
+      (let same : wanted_page m.root (m.height - 1) (mode (m.height - 1)) ≡ wanted = cc in same) (let same : this_box (whole_area k) ≡ asked = cc in same)
 
 -- ---- the pages that a consolidator asks for
 
-first_child_at : (name : ℕ) (leaf : Leaf) (b : Area) (xs : List Placed) (area : Area) → (first_child_box name xs ≡ Some area → Contains xs (placed (Child name) area))
-    → first_child_box name (placed leaf b ∷ xs) ≡ Some area → Contains (placed leaf b ∷ xs) (placed (Child name) area)
-first_child_at name (Records records) b xs area later e = later_member (placed (Records records) b) xs (placed (Child name) area) (later e)
-first_child_at name (Sibling page) b xs area later e = later_member (placed (Sibling page) b) xs (placed (Child name) area) (later e)
-first_child_at name (Child page) b xs area later e =
-    elim (page == name) as (λ t. (page == name) ≡ t → cond t (Some b) (first_child_box name xs) ≡ Some area → Contains (placed (Child page) b ∷ xs) (placed (Child name) area)) [
-      | true ↦ λ same e. (0, omega arith, let one : b ≡ area = cc in ap (λ (n : ℕ). placed (Child n) b) (eqb-true page name same) ∙ ap (placed (Child name)) one)
-      | false ↦ λ other e. later_member (placed (Child page) b) xs (placed (Child name) area) (later e)
-    ] refl e
-
--- the box of the first child leaf of a name is one of such a leaf
-first_child_among : (name : ℕ) (xs : List Placed) (area : Area) → first_child_box name xs ≡ Some area → Contains xs (placed (Child name) area)
-first_child_among name [] area is = cc
-first_child_among name (x ∷ xs) area is = first_child_at name x.leaf x.area xs area (first_child_among name xs area) is
-
--- the first box of a name is one of a sibling leaf
-pub first_sibling_among : (name : ℕ) (xs : List (ℕ × Area)) (area : Area) → first_named name xs ≡ Some area → Contains xs (name, area)
-first_sibling_among name [] area is = cc
-first_sibling_among name (x ∷ xs) area is =
+-- the first box of a name is one of the boxes
+pub first_box_among : (name : ℕ) (xs : List (ℕ × Area)) (area : Area) → first_named name xs ≡ Some area → Contains xs (name, area)
+first_box_among name [] area is = cc
+first_box_among name (x ∷ xs) area is =
     elim (x.0 == name) as (λ t. (x.0 == name) ≡ t → cond t (Some x.1) (first_named name xs) ≡ Some area → Contains (x ∷ xs) (name, area)) [
       | true ↦ λ same e. (0, omega arith, let one : x.1 ≡ area = cc in λ i. (eqb-true x.0 name same i, one i))
-      | false ↦ λ other e. let more = first_sibling_among name xs area e in (suc more.0, omega (arith, more.1), more.2)
+      | false ↦ λ other e. let more = first_box_among name xs area e in (suc more.0, omega (arith, more.1), more.2)
     ] refl is
 
--- the leaf of a place, without its box and with it
-get_mapped : (xs : List Placed) (place : ℕ) (leaf : Leaf) (l : Placed) → slice_get (map (λ (x : Placed). x.leaf) xs) place ≡ Some leaf → slice_get xs place ≡ Some l → leaf ≡ l.leaf
-get_mapped [] place leaf l is placed_is = cc
-get_mapped (x ∷ xs) zero leaf l is placed_is = let one : x.leaf ≡ leaf = cc in let same : x ≡ l = cc in sym one ∙ ap (λ (p : Placed). p.leaf) same
-get_mapped (x ∷ xs) (suc place) leaf l is placed_is = get_mapped xs place leaf l is placed_is
+-- so the box of the first child leaf of a name is one of such a leaf
+pub first_child_among : (name : ℕ) (xs : List Placed) (area : Area) → first_child_box name xs ≡ Some area → Contains xs (placed (Child name) area)
+first_child_among name xs area is = listed_child xs name area (first_box_among name (children xs) area is)
 
-pub leaf_of_place : (t : Tree) (area : Area) (place : ℕ) (leaf : Leaf) (l : Placed) → slice_get (leaves t) place ≡ Some leaf → slice_get (leaves_of t area) place ≡ Some l → leaf ≡ l.leaf
-leaf_of_place t area place leaf l is placed_is = get_mapped (leaves_of t area) place leaf l (ap (λ (ls : List Leaf). slice_get ls place) (leaves_placed t area) ∙ is) placed_is
+-- the leaf of a place, without its box and with it
+pub leaf_of_place : (t : Tree) (area : Area) (place : ℕ) (leaf : Leaf) → slice_get (leaves t) place ≡ Some leaf → (l : Placed) × (slice_get (leaves_of t area) place ≡ Some l) × (l.leaf ≡ leaf)
+leaf_of_place t area place leaf is = mapped_place (λ (l : Placed). l.leaf) (leaves_of t area) place leaf (ap (λ (ls : List Leaf). slice_get ls place) (leaves_placed t area) ∙ is)
 
 module _ (s : FileState) (sound : IsSound s) (id : ℕ) (page : LivePage) (live : live_page s id ≡ Some page) where
   -- a child of the parent, by its first leaf from the left
   pub named_child_there : (name : ℕ) (mode : Mode) (then : Option LivePage) (wanted : Wanted) (asked : AskedBox) → then ≡ Some page → wanted_page name (page.level - 1) mode ≡ wanted → box_of_child then name ≡ Some asked → IsThere s wanted asked
   named_child_there name mode then wanted asked is wants asks = by (first_child_box name (leaves_of page.frag page.area)) refl (subst (λ (o : Option LivePage). box_of_child o name ≡ Some asked) is asks)
     where
-      by : (o : Option Area) → first_child_box name (leaves_of page.frag page.area) ≡ o → option_map (λ (area : Area). record { area = area; exact = false }) o ≡ Some asked → IsThere s wanted asked
+      by : (o : Option Area) → first_child_box name (leaves_of page.frag page.area) ≡ o → option_map around_box o ≡ Some asked → IsThere s wanted asked
       by None is asks = cc
-      by (Some area) is asks = child_there s sound id page live name area mode wanted asked (first_child_among name (leaves_of page.frag page.area) area is) wants (let same : record { area = area; exact = false } ≡ asked = cc in same)
+      by (Some area) is asks = child_there s sound id page live name area mode wanted asked (first_child_among name (leaves_of page.frag page.area) area is) wants (let same : around_box area ≡ asked = cc in same)
 
   -- a page to which the page gave a part of its box, by the leaf at a place
   pub placed_sibling_there : (name place : ℕ) (mode : Mode) (then : Option LivePage) (wanted : Wanted) (asked : AskedBox) → then ≡ Some page → slice_get (leaves page.frag) place ≡ Some (Sibling name)
       → wanted_page name page.level mode ≡ wanted → box_of_place then place ≡ Some asked → IsThere s wanted asked
-  placed_sibling_there name place mode then wanted asked is there wants asks = by (slice_get (leaves_of page.frag page.area) place) refl (subst (λ (o : Option LivePage). box_of_place o place ≡ Some asked) is asks)
-    where
-      by : (o : Option Placed) → slice_get (leaves_of page.frag page.area) place ≡ o → option_and_then box_by_leaf o ≡ Some asked → IsThere s wanted asked
-      by None is asks = cc
-      by (Some l) is asks =
-          let leaf : Sibling name ≡ l.leaf = leaf_of_place page.frag page.area place (Sibling name) l there is in
-          let among : Contains (leaves_of page.frag page.area) (placed (Sibling name) l.area) = subst (λ (x : Leaf). Contains (leaves_of page.frag page.area) (placed x l.area)) (sym leaf) (place_member (leaves_of page.frag page.area) place l is) in
-          let box : box_by_leaf (placed (Sibling name) l.area) ≡ Some asked = subst (λ (x : Leaf). box_by_leaf (placed x l.area) ≡ Some asked) (sym leaf) asks in
-          sibling_there s sound id page live name l.area mode wanted asked among wants (let same : record { area = l.area; exact = true } ≡ asked = cc in same)
+  placed_sibling_there name place mode then wanted asked is there wants asks =
+      let l = leaf_of_place page.frag page.area place (Sibling name) there in
+      let among : Contains (leaves_of page.frag page.area) (placed (Sibling name) l.0.area) = subst (λ (x : Leaf). Contains (leaves_of page.frag page.area) (placed x l.0.area)) l.2 (place_member (leaves_of page.frag page.area) place l.0 l.1) in
+      let found : box_by_leaf l.0 ≡ Some asked = subst (λ (o : Option Placed). option_and_then box_by_leaf o ≡ Some asked) l.1 (subst (λ (o : Option LivePage). box_of_place o place ≡ Some asked) is asks) in
+      let box : box_by_leaf (placed (Sibling name) l.0.area) ≡ Some asked = subst (λ (x : Leaf). box_by_leaf (placed x l.0.area) ≡ Some asked) l.2 found in
+      sibling_there s sound id page live name l.0.area mode wanted asked among wants (let same : this_box l.0.area ≡ asked = cc in same)
 
   -- and by its first sibling leaf to that page
   pub given_there : (name : ℕ) (level : ℕ) (mode : Mode) (then : Option LivePage) (wanted : Wanted) (asked : AskedBox) → then ≡ Some page → page.level ≡ level → wanted_page name level mode ≡ wanted → box_of_sibling then name ≡ Some asked → IsThere s wanted asked
   given_there name level mode then wanted asked is on wants asks = by (first_named name (siblings_of page)) refl (subst (λ (o : Option LivePage). box_of_sibling o name ≡ Some asked) is asks)
     where
-      by : (o : Option Area) → first_named name (siblings_of page) ≡ o → option_map (λ (area : Area). record { area = area; exact = true }) o ≡ Some asked → IsThere s wanted asked
+      by : (o : Option Area) → first_named name (siblings_of page) ≡ o → option_map this_box o ≡ Some asked → IsThere s wanted asked
       by None is asks = cc
       by (Some area) is asks =
-          let named = sound.siblings id page name area live (first_sibling_among name (siblings_of page) area is) in
-          found s sound name level mode wanted (record { area = area; exact = true }) asked named.0 wants (let same : record { area = area; exact = true } ≡ asked = cc in same) named.1 (named.2 ∙ on) named.3
+          let named = sound.siblings id page name area live (first_box_among name (siblings_of page) area is) in
+          found s sound name level mode wanted (this_box area) asked named.0 wants (let same : this_box area ≡ asked = cc in same) named.1 (named.2 ∙ on) named.3
 
 -- a child that a page names, with the box of a leaf
 pub named_with_box : (page : LivePage) (name : ℕ) → IsTrue (names_child page name) → (b : Area) × Contains (leaves_of page.frag page.area) (placed (Child name) b)

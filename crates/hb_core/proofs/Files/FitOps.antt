@@ -1,8 +1,8 @@
 -- The operation of a row has its place in the log: its numbers, its point, its body and its box.
-use Rattle.std.proofs.Common.{◌≡◌, inl, inr, ℕ, ◌<◌, ◌≤◌, ◌^◌, ◌==◌, List, [], length, All, Option, Some, None, IsSome, refl, sym, ◌∙◌, subst, arith}
+use Rattle.std.proofs.Common.{◌≡◌, inl, inr, ℕ, ◌<◌, ◌≤◌, ◌^◌, ◌==◌, List, length, Option, Some, None, IsSome, refl, sym, ◌∙◌, subst, arith}
 use Rattle.std.specs.List.{Contains}
 use Rattle.std.proofs.lemmas.Bool.{cases_Bool, eqb-true, eqb-false}
-use Rattle.std.proofs.lemmas.List.Elements.{All-append, All-cons, All-contains, All-head, All-nil}
+use Rattle.std.proofs.lemmas.List.Elements.{All-contains}
 use Rattle.hb_space.specs.declared.records.Record.{Record}
 use Rattle.hb_frag.specs.declared.leaves.Leaf.TheVariants.{Records, Sibling}
 use Rattle.hb_frag.specs.declared.pages.LivePage.{LivePage}
@@ -14,15 +14,14 @@ use Rattle.hb_ops.specs.declared.leaf_cuts.LeafCut.{LeafCut}
 use Rattle.hb_ops.specs.declared.operations.Op.{Op}
 use Rattle.hb_ops.specs.declared.operations.Op.TheVariants as ops
 use Rattle.hb_core.specs.AllowedLaws.{IsLicensedHere}
-use Rattle.hb_frag.proofs.Facts.Tiles.{first_tells, found_where_held}
-use Rattle.hb_frag.specs.Leaves.{Placed, leaf_at, leaves, leaves_of}
-use Rattle.hb_frag.specs.Trees.{Tree, Tip, Cut}
+use Rattle.hb_frag.proofs.Facts.Tiles.{first_tells, found_where_held, placed_all}
+use Rattle.hb_frag.specs.Leaves.{Placed, leaf_at, leaves_of}
 use Rattle.hb_log_codec.specs.Groups.{FitsOp}
 use Rattle.hb_ops.specs.Files.{if_live}
 use Rattle.hb_ops.specs.Operations.{IsAllowedOn}
-use Rattle.hb_space.specs.Boxes.{Area, IsArea, Holds, side_below, side_from}
+use Rattle.hb_space.specs.Boxes.{Area, IsArea, Holds}
 use Rattle.hb_space.specs.Points.{IsPoint}
-use Rattle.hb_ops.proofs.Facts.MadeLeaves.{AllFit, FitsIn, all_fit}
+use Rattle.hb_ops.proofs.Facts.MadeLeaves.{FitsIn, all_fit}
 use Rattle.hb_store.specs.Calls.{IsAllowedHere, read_here}
 use Rattle.hb_store.specs.Making.{PartsFitOnGoodPages}
 use Rattle.hb_store.specs.Fetching.{IsNext}
@@ -30,18 +29,9 @@ use Rattle.hb_store.specs.Replaying.{HasLimits}
 use Rattle.hb_store.specs.States.{AreGood, IsGoodPage, StoreState, in_memory}
 use Rattle.hb_terms.proofs.Facts.Owing.{planned_may_be}
 use Rattle.hb_ops.proofs.Facts.PageNumberLaws.{live_so}
-use Rattle.hb_lemmas.proofs.Lists.{All-front, All-behind}
 
 abbrev pub HeldArePoints : Type 0
 HeldArePoints = (a : Area) (p : List ℕ) → IsArea a → Holds a p → IsPoint p
-
--- a leaf that a page of the file names fits its place
-placed_fit : (k : ℕ) (t : Tree) (area : Area) → AllFit k t → All (λ (l : Placed). FitsIn k l.leaf) (leaves_of t area)
-placed_fit k (Tip leaf) area fit = All-cons (λ (l : Placed). FitsIn k l.leaf) (record { leaf = leaf; area = area }) [] (All-head (FitsIn k) leaf [] fit) (All-nil (λ (l : Placed). FitsIn k l.leaf))
-placed_fit k (Cut axis value left right) area fit =
-    All-append (λ (l : Placed). FitsIn k l.leaf) (leaves_of left (side_below area axis value)) (leaves_of right (side_from area axis value))
-    (placed_fit k left (side_below area axis value) (All-front (FitsIn k) (leaves left) (leaves right) fit))
-    (placed_fit k right (side_from area axis value) (All-behind (FitsIn k) (leaves left) (leaves right) fit))
 
 -- A page that is in memory and good, at a point that has a leaf there.
 module _ (points : HeldArePoints) (meta : Meta) (page : LivePage) (good : IsGoodPage meta (Live page)) (p : List ℕ) (l : Placed) (there : leaf_at page p ≡ Some l) where
@@ -61,7 +51,7 @@ module _ (points : HeldArePoints) (meta : Meta) (page : LivePage) (good : IsGood
   point_there = points page.area p box held
 
   pub leaf_fits_there : FitsIn (length page.area.lo) l.leaf
-  leaf_fits_there = All-contains (λ (l : Placed). FitsIn (length page.area.lo) l.leaf) (leaves_of page.frag page.area) l (placed_fit (length page.area.lo) page.frag page.area (all_fit (length page.area.lo) page.frag good.0.fits.2)) at_leaf.0
+  leaf_fits_there = All-contains (λ (l : Placed). FitsIn (length page.area.lo) l.leaf) (leaves_of page.frag page.area) l (placed_all (FitsIn (length page.area.lo)) page.frag page.area (all_fit (length page.area.lo) page.frag good.0.fits.2)) at_leaf.0
 
 -- a page in use that is in memory is good
 pub live_good : (st : StoreState) → AreGood st.meta (in_memory st) → (id : ℕ) (page : LivePage) → if_live (in_memory st id) ≡ Some page → IsGoodPage st.meta (Live page)

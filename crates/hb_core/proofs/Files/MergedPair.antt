@@ -14,7 +14,7 @@ use Rattle.hb_activity.specs.declared.activities.Activity.TheVariants as at
 use Rattle.hb_activity.specs.Waiting.{IsLater}
 use Rattle.hb_activity.specs.Wanting.{wanted_of, wanted_page}
 use Rattle.hb_consol.specs.ConsolidatorRows.{names_child}
-use Rattle.hb_core.proofs.Files.AskedPages.{first_sibling_among}
+use Rattle.hb_core.proofs.Files.AskedPages.{first_box_among}
 use Rattle.hb_ops.proofs.Facts.NamedChildren.{named_leaf}
 use Rattle.hb_core.proofs.Files.PairAtHand.{gone_box, gone_live}
 use Rattle.hb_core.proofs.Memory.BroughtPages.{both_there, must_hold}
@@ -105,7 +105,7 @@ module _ (m : Machine) (actor : ℕ) (may : ℕ → Type 0) (fetched : StoreStat
   later =
       let box = gone_box m actor fetched job parent keep gone wanted page pair is wants hand in
       let level : page.level ≡ pair.kept.level = omega (arith, kept_level, gone_level) in
-      sibling_found fetched.meta pair.kept (live_good fetched keeps.framed keep pair.kept pair.kept_live) page gone page.area (first_sibling_among gone _ page.area box) level refl
+      sibling_found fetched.meta pair.kept (live_good fetched keeps.framed keep pair.kept pair.kept_live) page gone page.area (first_box_among gone _ page.area box) level refl
 
   two : keep ≢ gone
   two same = never_later pair.kept page (numbered keep gone pair.kept page pair.kept_live here same) later

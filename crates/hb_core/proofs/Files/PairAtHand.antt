@@ -1,5 +1,5 @@
 -- A consolidator that decides on a pair has the page to go at hand, with the box that the page to keep gave it.
-use Rattle.std.proofs.Common.{◌≡◌, ℕ, ◌-◌, Option, Some, None, IfSome, IsSome, option_map, true, refl, sym, ap, ◌∙◌, subst}
+use Rattle.std.proofs.Common.{◌≡◌, ℕ, ◌-◌, Option, Some, None, IfSome, IsSome, option_map, refl, sym, ap, ◌∙◌, subst}
 use Rattle.hb_frag.specs.declared.pages.LivePage.{LivePage}
 use Rattle.hb_latch.specs.declared.modes.Mode.TheVariants.{Exclusive}
 use Rattle.hb_ops.specs.declared.operations.Op.TheVariants as ops
@@ -9,7 +9,7 @@ use Rattle.hb_activity.specs.declared.activities.Activity.{Activity}
 use Rattle.hb_activity.specs.declared.activities.Activity.TheVariants as at
 use Rattle.hb_activity.specs.Wanting.{wanted_of}
 use Rattle.hb_core.proofs.Table.MergerMoves.{MergesPair, of_page}
-use Rattle.hb_core.specs.Asking.{HasAskedBox, asked_box, box_of_sibling, looked_live, wanted_by}
+use Rattle.hb_core.specs.Asking.{HasAskedBox, asked_box, box_of_sibling, looked_live, this_box, wanted_by}
 use Rattle.hb_core.specs.Machines.{Machine, live_here, with_disk, sight}
 use Rattle.hb_core.specs.Rows.{IsAtHand}
 use Rattle.hb_frag.specs.Leaves.{first_named, siblings_of}
@@ -34,8 +34,7 @@ given_box kept gone area None is some has = absurd (nothing (subst (λ (o : Opti
     nothing : IsSome none → ⊥
     nothing never = cc
 given_box kept gone area (Some box) is some has =
-    let exact : IfSome (option_map (λ (area : Area). record { area = area; exact = true }) (Some box)) (λ asked. HasAskedBox asked area) = subst (λ (o : Option Area). IfSome (option_map (λ (area : Area). record { area = area; exact = true }) o) (λ asked. HasAskedBox asked area)) is has in
-    let same : area ≡ box = exact in
+    let same : area ≡ box = subst (λ (o : Option Area). IfSome (option_map this_box o) (λ asked. HasAskedBox asked area)) is has in
     is ∙ ap (λ (a : Area). Some a) (sym same)
 
 module _ (m : Machine) (actor : ℕ) (fetched : StoreState) (job : Job) (parent keep gone : ℕ) (wanted : Wanted) (page : LivePage) (pair : MergesPair (sight (with_disk fetched m.files m.clock m)) parent keep gone page) (is : m.activity actor ≡ at.ConsolidatorDecide job parent keep gone) (wants : wanted_by m actor ≡ Some wanted)

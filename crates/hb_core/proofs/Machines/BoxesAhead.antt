@@ -1,5 +1,5 @@
 -- The boxes that a search has before it after a row are boxes of the file's attributes, and it has one left.
-use Rattle.std.proofs.Common.{◌≡◌, ◌≢◌, ℕ, zero, suc, ◌-◌, List, [], ◌∷◌, ◌++◌, length, All, Option, Some, None, refl, sym, ap, ◌∙◌, subst, arith}
+use Rattle.std.proofs.Common.{◌≡◌, ◌≢◌, ℕ, ◌-◌, List, [], ◌∷◌, ◌++◌, length, All, Option, Some, None, refl, sym, ap, ◌∙◌, subst, arith}
 use Rattle.std.specs.Prelude.{slice_get}
 use Rattle.std.specs.Option.{option_map}
 use Rattle.std.proofs.lemmas.List.{length-append}
@@ -28,7 +28,7 @@ use Rattle.hb_space.proofs.Facts.Boxes.{lo_held}
 use Rattle.hb_space.specs.Boxes.{Area, Holds, IsArea, common_area, pieces_outside}
 use Rattle.hb_store.specs.States.{IsGoodPage}
 use Rattle.hb_core.proofs.Facts.EachRow.{Searches, each_row}
-use Rattle.hb_lemmas.proofs.Lists.{All-last, All-front, not_empty}
+use Rattle.hb_lemmas.proofs.Lists.{All-last, All-front, not_empty, get-push_last}
 use Rattle.std.proofs.lemmas.Option.{same_Some}
 
 -- a search that walks has a box left
@@ -67,10 +67,7 @@ others_have_none k activity kind never is = none_ahead k activity (λ walks. nev
 -- ---- a search
 
 last_there : (front : List Area) (last : Area) (place : ℕ) → place ≡ length front → slice_get (front ++ last ∷ []) place ≡ Some last
-last_there [] last zero is = refl
-last_there [] last (suc place) is = absurd (omega (arith, is))
-last_there (a ∷ front) last zero is = absurd (omega (arith, is))
-last_there (a ∷ front) last (suc place) is = last_there front last place (omega (arith, is))
+last_there front last place is = ap (slice_get (front ++ last ∷ [])) is ∙ get-push_last front last
 
 -- it walks to the lower corner of the last box
 pub goal_at_hand : (area : Area) (rest front : List Area) (last : Area) (p : List ℕ) → rest ≡ front ++ last ∷ [] → goal_of (Search area) rest ≡ Some p → last.lo ≡ p

@@ -1,5 +1,5 @@
 -- After a step locks of different actors whose boxes meet are shared.
-use Rattle.std.proofs.Common.{◌≡◌, ◌≢◌, ◌⊎◌, inl, inr, ℕ, ◌==◌, ◌&&◌, not, Bool, true, false, cond, length, Option, Some, None, IfSome, IsSomeAnd, IsTrue, refl, sym, ap, ◌∙◌, subst}
+use Rattle.std.proofs.Common.{◌≡◌, ◌≢◌, ◌⊎◌, inl, inr, ℕ, ◌==◌, Bool, true, false, cond, length, Option, Some, None, IfSome, IsSomeAnd, IsTrue, refl, sym, ap, ◌∙◌, subst}
 use Rattle.std.specs.Prelude.{MatchOption}
 use Rattle.std.specs.Option.{option_map}
 use Rattle.std.proofs.lemmas.Bool.{eqb-true, eqb-false}
@@ -34,6 +34,7 @@ use Rattle.hb_core.specs.Performing.{Performs}
 use Rattle.hb_core.specs.Steps.{BeginsLine, StepsAs, StepsTo, TakesJob, TakesMerging}
 use Rattle.hb_space.proofs.Facts.Boxes.{Meets-back}
 use Rattle.std.proofs.lemmas.Option.{none-some, same_Some}
+use Rattle.hb_boxlock.proofs.Facts.LockedBoxes.{both_shared}
 
 -- ---- the lock of an activity is that of the line in its hand
 
@@ -77,18 +78,10 @@ lock_box m kept actor lock is = hand_box m.store.meta.k (line_in_hand (m.activit
 
 -- ---- locks that don't exclude each other
 
-both_or_alone : (a b : Bool) → (IsTrue (not (a && b)) → ⊥) → IsTrue a × IsTrue b
-both_or_alone true true never = (refl, refl)
-both_or_alone true false never = absurd (never refl)
-both_or_alone false b never = absurd (never refl)
-
-beside : (lock held : BoxLock) → (Excludes lock held → ⊥) → Meets lock.area held.area → IsTrue lock.shared × IsTrue held.shared
-beside lock held none meets = both_or_alone lock.shared held.shared (λ alone. none (record { meets = meets; alone = alone }))
-
 -- a box that is free isn't excluded by what another one has locked
 free_beside : (m : Machine) (actor other : ℕ) (lock held : BoxLock) → HasBoxFree m actor lock → other ≢ actor → lock_of (m.activity other) ≡ Some held → Meets lock.area held.area → IsTrue lock.shared × IsTrue held.shared
 free_beside m actor other lock held free another is meets =
-    beside lock held (λ out. free other (record { another = another; excluded = subst (λ (o : Option BoxLock). IsSomeAnd o (Excludes lock)) (sym is) out })) meets
+    both_shared lock held (λ out. free other (record { another = another; excluded = subst (λ (o : Option BoxLock). IsSomeAnd o (Excludes lock)) (sym is) out })) meets
 
 -- ---- each step
 

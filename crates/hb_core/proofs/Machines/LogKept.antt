@@ -1,11 +1,8 @@
 -- Every step keeps that the log is the area of the store's turn.
 use Rattle.std.proofs.Common.{◌≡◌, inl, inr, ℕ, ◌+◌, ◌*◌, ◌%◌, Option, Some, None, refl, sym, ap, ◌∙◌, subst}
 use Rattle.hb_activity.specs.Deeds.{Deed}
-use Rattle.hb_frag.specs.declared.pages.LivePage.{LivePage}
 use Rattle.hb_layout.specs.declared.meta.Meta.{Meta}
-use Rattle.hb_ops.specs.Operations.{IsAllowedOn, change_of}
 use Rattle.hb_ops.specs.declared.operations.Op.{Op}
-use Rattle.hb_ops.specs.declared.operations.Op.TheVariants.{Del, Extract, Grow, Merge, Post, Put}
 use Rattle.hb_store.specs.Calls.{KeepsAllButPages, read_here}
 use Rattle.hb_store.specs.States.{StoreState}
 use Rattle.hb_core.specs.declared.outcomes.Outcome.{Outcome}
@@ -17,6 +14,7 @@ use Rattle.hb_core.specs.Machines.{Machine}
 use Rattle.hb_core.specs.Performing.{MayDo, Performs}
 use Rattle.hb_core.specs.Steps.{StepsTo, Works}
 use Rattle.hb_core.proofs.Facts.StepKinds.{FlushesMore, each_kind, ready_kind}
+use Rattle.hb_core.proofs.Facts.LogAndStop.{layout_of_change}
 
 -- the turn, the log's area and the layout of a store are those of another one
 pub record HasSameArea (old new : StoreState) : Type 0 where
@@ -34,29 +32,13 @@ same_store old new is = record { turn = ap (λ (s : StoreState). s.turn) is; are
 and_then : (old mid new : StoreState) → HasSameArea old mid → HasSameArea mid new → HasSameArea old new
 and_then old mid new first next = record { turn = next.turn ∙ first.turn; area = next.area ∙ first.area; len = next.len ∙ first.len; bytes = next.bytes ∙ first.bytes }
 
--- no operation changes the layout
-log_of_change : (op : Op) (meta : Meta) (first second third : Option LivePage) → IsAllowedOn op meta first second third → (change_of op meta first second third).meta.log ≡ meta.log
-log_of_change (Put id rec) meta None second third allowed = absurd allowed
-log_of_change (Put id rec) meta (Some page) second third allowed = refl
-log_of_change (Del id point) meta None second third allowed = absurd allowed
-log_of_change (Del id point) meta (Some page) second third allowed = refl
-log_of_change (Extract source fresh path cuts free_after) meta None second third allowed = absurd allowed
-log_of_change (Extract source fresh path cuts free_after) meta (Some page) second third allowed = refl
-log_of_change (Post parent at inner area) meta None second third allowed = absurd allowed
-log_of_change (Post parent at inner area) meta (Some page) second third allowed = refl
-log_of_change (Merge parent keep gone) meta None second third allowed = absurd allowed
-log_of_change (Merge parent keep gone) meta (Some above) None third allowed = absurd allowed
-log_of_change (Merge parent keep gone) meta (Some above) (Some kept) None allowed = absurd allowed
-log_of_change (Merge parent keep gone) meta (Some above) (Some kept) (Some going) allowed = refl
-log_of_change (Grow fresh free_after) meta first second third allowed = refl
-
 after_op : (op : Option Op) (mark : ℕ) (old new : StoreState) → MayDo op mark old new → HasSameArea old new
 after_op None mark old new does = same_store old new does
 after_op (Some op) mark old new does = record {
   turn = does.commits.turn;
   area = does.commits.area;
   len = does.commits.len;
-  bytes = ap (λ (m : Meta). m.log) does.commits.meta ∙ log_of_change op old.meta (read_here old op 0) (read_here old op 1) (read_here old op 2) does.allowed;
+  bytes = ap (λ (m : Meta). m.log) does.commits.meta ∙ (layout_of_change op old.meta (read_here old op 0) (read_here old op 1) (read_here old op 2) does.allowed).log;
 }
 
 module _ (m : Machine) (actor : ℕ) (outcome : Outcome) (new : Machine) (here : LogInPlace m) where

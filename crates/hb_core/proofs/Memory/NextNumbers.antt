@@ -8,19 +8,16 @@ use Rattle.hb_core.specs.Machines.{next_of, next_of_chain}
 use Rattle.hb_store.specs.Fetching.{IsNext}
 use Rattle.hb_store.specs.States.{StoreState, in_memory}
 
-abbrev Id2 : ℕ × ℕ → ℕ × ℕ → Type 0
-Id2 a b = a ≡ b
-
 of_chain : (head : ℕ) (page : Option Page) (fresh after : ℕ) → next_of_chain head page ≡ Some (fresh, after) → (fresh ≡ head) × (page ≡ Some (Free after))
 of_chain head None fresh after is = cc
 of_chain head (Some (Live page)) fresh after is = cc
 of_chain head (Some (Free next)) fresh after is =
-    let same : Id2 (head, next) (fresh, after) = cc in
+    let same : ◌≡◌ {A = ℕ × ℕ} (head, next) (fresh, after) = cc in
     (sym (ap (λ (p : ℕ × ℕ). p.0) same), ap (λ (n : ℕ). Some (Free n)) (ap (λ (p : ℕ × ℕ). p.1) same))
 
 behind : (b : Bool) (n fresh after : ℕ) → cond {A = Option (ℕ × ℕ)} b (Some (n, 0)) None ≡ Some (fresh, after) → (b ≡ true) × (fresh ≡ n) × (after ≡ 0)
 behind true n fresh after is =
-    let same : Id2 (n, 0) (fresh, after) = cc in
+    let same : ◌≡◌ {A = ℕ × ℕ} (n, 0) (fresh, after) = cc in
     (refl, sym (ap (λ (p : ℕ × ℕ). p.0) same), sym (ap (λ (p : ℕ × ℕ). p.1) same))
 behind false n fresh after is = cc
 

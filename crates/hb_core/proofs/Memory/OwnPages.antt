@@ -38,10 +38,6 @@ module _ (m : Machine) (actor : ℕ) (latches : IsActor actor) (fit : LatchesFit
   abbrev pub Goal : Type 0
   Goal = IsInUse new id page ⊎ MayHaveLeft m id new ⊎ HasAlone m actor id
 
-  -- the page stays where the memory stays
-  same_memory : new.store ≡ m.store → Goal
-  same_memory is = inl (ap (λ (st : StoreState). in_memory st id) is ∙ used)
-
   -- what was fetched leaves it, or it has left
   abbrev Remains : StoreState → Type 0
   Remains fetched = (in_memory fetched id ≡ Some (Live page)) ⊎ ((¬ (MustStay m id)) × ((in_memory fetched id ≡ None) ⊎ (m.files ≡ None)))

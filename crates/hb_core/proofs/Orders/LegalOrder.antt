@@ -1,5 +1,5 @@
 -- After a step the order is legal, and the file has its result.
-use Rattle.std.proofs.Common.{◌≡◌, ◌≢◌, ◌⊎◌, inl, inr, ℕ, ◌<◌, ◌≤◌, true, List, [], ◌∷◌, ◌++◌, All, Option, Some, IfSome, refl, sym, ap, ◌∙◌, subst, arith}
+use Rattle.std.proofs.Common.{◌≡◌, ◌≢◌, ◌⊎◌, inl, inr, ℕ, ◌<◌, ◌≤◌, true, List, [], ◌∷◌, ◌++◌, All, Option, Some, IfSome, sym, ap, ◌∙◌, subst, arith}
 use Rattle.std.specs.List.{AllByRecursion}
 use Rattle.std.proofs.lemmas.Bool.{cases_lt, false≢true}
 use Rattle.std.proofs.lemmas.List.Elements.{All-head, All-tail}
@@ -19,12 +19,9 @@ use Rattle.hb_core.specs.OrderLaws.{OrderStaysLegal, SearchesAreRight}
 use Rattle.hb_point.specs.SessionRows.{is_answered, next_line, WantsBoxes}
 use Rattle.hb_set.specs.Machine.{RecordSet, reply_of, set_after}
 use Rattle.hb_set.specs.Order.{AreReplies, Entry, IsLegalOrder, KeepsSessions, MayPrecede, result_of}
+use Rattle.hb_set.proofs.Facts.OrderLaws.{result_of-append}
 
 -- ---- one entry more
-
-result_more : (n : RecordSet) (order : List Entry) (entry : Entry) → result_of n (order ++ entry ∷ []) ≡ set_after entry.line.command (result_of n order)
-result_more n [] entry = refl
-result_more n (first ∷ order) entry = result_more (set_after first.line.command n) order entry
 
 replies_more : (n : RecordSet) (order : List Entry) (entry : Entry) → AreReplies n order → entry.reply ≡ reply_of entry.line.command (result_of n order) → AreReplies n (order ++ entry ∷ [])
 replies_more n [] entry are is = (is, tt)
@@ -103,7 +100,7 @@ module _ (n : RecordSet) (m : Machine) (files after : Files) (actor : ℕ) (new 
           replies = replies_more n m.order entry legal.legal.replies reply;
           sessions = sessions_more m.order entry legal.legal.sessions (λ i d lt. may_precede m sequence actor entry takes.hand _ (sequence.placed i d lt));
         }),
-        ap (result_of n) order ∙ result_more n m.order entry ∙ ap (set_after entry.line.command) legal.result ∙ sym takes.leaves,
+        ap (result_of n) order ∙ result_of-append n m.order (entry ∷ []) ∙ ap (set_after entry.line.command) legal.result ∙ sym takes.leaves,
       )
 
 pub order_stays_legal : ContentsFollowOrder → SearchesAreRight → OrderStaysLegal

@@ -11,7 +11,7 @@ use Rattle.hb_core.proofs.Facts.StepKinds.{FlushesMore, each_kind, ready_kind}
 use Rattle.hb_core.specs.Forcing.{FailsToWrite, ForcesAll, StaysSo}
 use Rattle.hb_core.specs.KeptMachine.{MachineKeeps}
 use Rattle.hb_core.specs.KeptPlaces.{MarksRise}
-use Rattle.hb_core.specs.Machines.{Machine, if_some}
+use Rattle.hb_core.specs.Machines.{Machine}
 use Rattle.hb_core.specs.Performing.{MayDo, Performs}
 use Rattle.hb_core.specs.Steps.{StepsTo, Works}
 use Rattle.hb_space.specs.Actors.{IsActor}
@@ -22,6 +22,7 @@ use Rattle.hb_store.specs.States.{StoreState}
 use Rattle.hb_wal.specs.Log.{LogState, Waiting}
 use Rattle.hb_lemmas.proofs.Pairs.{pairs_none}
 use Rattle.std.proofs.lemmas.List.Quantifiers.{all_pairs_push}
+use Rattle.std.specs.Option.{option_to_list}
 
 abbrev pub IsInside : ℕ → Waiting → Type 0
 IsInside most g = g.mark ≤ most
@@ -77,7 +78,7 @@ module _ (m : Machine) (actor : ℕ) (outcome : Outcome) (new : Machine) (marks 
       joined more group refl order_is (does.group ∙ ap (λ (l : LogState). l.groups ++ group ∷ []) log)
 
   performed : (fetched : StoreState) (deed : Deed) → fetched.log ≡ m.store.log → Performs m fetched actor deed outcome new → MarksRise new
-  performed fetched deed log performs = done deed.op fetched (if_some deed.joins) log performs.order performs.store
+  performed fetched deed log performs = done deed.op fetched (option_to_list deed.joins) log performs.order performs.store
 
   worked : Works m actor outcome new → MarksRise new
   worked (inl (by, way, so)) = stays (outcomes.Blocked by) so

@@ -16,13 +16,14 @@ use Rattle.hb_core.proofs.Table.MergerMoves.{Waits}
 use Rattle.hb_core.proofs.Facts.StepKinds.{each_step, ready_kind}
 use Rattle.hb_core.proofs.Facts.Ways.{KeepsAllButDisk, forces_so, meets_so, stays_so, more_so}
 use Rattle.hb_core.specs.KeptOrder.{StandsInOrder, StandsOutside}
-use Rattle.hb_core.specs.Machines.{Machine, if_some}
+use Rattle.hb_core.specs.Machines.{Machine}
 use Rattle.hb_core.specs.Performing.{Performs, given_by, outcome_of}
 use Rattle.hb_core.specs.Steps.{StepsTo, Works}
 use Rattle.hb_set.specs.Order.{Entry}
 use Rattle.hb_store.specs.States.{StoreState}
 use Rattle.hb_lemmas.proofs.Lists.{get-push_last}
 use Rattle.hb_core.proofs.TwoSteps.SinglePlaces.{stands_longer}
+use Rattle.std.specs.Option.{option_to_list}
 
 abbrev pub StandsSomewhere : Machine → Answered → Type 0
 StandsSomewhere m a = StandsOutside a.reply ⊎ ((place : ℕ) × StandsInOrder m a.line a.reply place)
@@ -50,10 +51,10 @@ module _ (m : Machine) (actor : ℕ) (outcome : Outcome) (new : Machine) (keeps 
   done fetched deed performs given own = record {
     awaits = λ other number place reply is. elim (cases_Bool (other == actor)) [
       | inl here ↦ own number place reply (sym (performs.activity other ∙ ap (λ (b : Bool). cond b deed.next (m.activity other)) here) ∙ is)
-      | inr off ↦ stands_longer m new (if_some deed.joins) number place reply performs.order (keeps.awaits other number place reply (sym (performs.activity other ∙ ap (λ (b : Bool). cond b deed.next (m.activity other)) off) ∙ is))
+      | inr off ↦ stands_longer m new (option_to_list deed.joins) number place reply performs.order (keeps.awaits other number place reply (sym (performs.activity other ∙ ap (λ (b : Bool). cond b deed.next (m.activity other)) off) ∙ is))
     ];
     answers = subst (λ (l : List Answered). All (StandsSomewhere new) l) (sym performs.answered)
-        (All-append (StandsSomewhere new) m.answered (given_by (outcome_of deed.says) m.clock) (λ i d lt. somewhere_more (if_some deed.joins) performs.order (get_or m.answered i d) (keeps.answers i d lt)) given);
+        (All-append (StandsSomewhere new) m.answered (given_by (outcome_of deed.says) m.clock) (λ i d lt. somewhere_more (option_to_list deed.joins) performs.order (get_or m.answered i d) (keeps.answers i d lt)) given);
   }
 
   none_given : (deed : Deed) → given_by (outcome_of deed.says) m.clock ≡ [] → All (StandsSomewhere new) (given_by (outcome_of deed.says) m.clock)
@@ -84,7 +85,7 @@ module _ (m : Machine) (actor : ℕ) (outcome : Outcome) (new : Machine) (keeps 
   fated fetched deed (inl goes) performs = quiet fetched deed performs (goes.quiet m.clock) goes.awaits
   fated fetched deed (inr (inl takes)) performs =
       let entry : Entry = record { line = takes.line; reply = takes.reply } in
-      let order : new.order ≡ m.order ++ entry ∷ [] = performs.order ∙ ap (λ (o : Option Entry). m.order ++ if_some o) takes.joins in
+      let order : new.order ≡ m.order ++ entry ∷ [] = performs.order ∙ ap (λ (o : Option Entry). m.order ++ option_to_list o) takes.joins in
       done fetched deed performs (none_given deed (takes.quiet m.clock)) (λ number place reply is.
       let same = awaits_same deed.next deed.next takes.line.number number (length m.order) place takes.reply reply takes.next is in
       record {

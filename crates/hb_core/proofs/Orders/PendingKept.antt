@@ -21,7 +21,7 @@ use Rattle.hb_core.specs.Forcing.{ForcesAll, StaysSo, forced_files}
 use Rattle.hb_core.specs.KeepingLaws.{IsAnsweredInPlace, PrefixStaysPending, SettledStaysSettled}
 use Rattle.hb_core.specs.Keeps.{HasSoundFile}
 use Rattle.hb_core.specs.KeptOrder.{FollowMarks, HasLegalOrder, HasPendingPrefix, StandsInOrder}
-use Rattle.hb_core.specs.Machines.{Files, Machine, current_file, if_some, settled_count}
+use Rattle.hb_core.specs.Machines.{Files, Machine, current_file, settled_count}
 use Rattle.hb_core.specs.Performing.{MayDo, Performs, files_after, given_by, with_effect}
 use Rattle.hb_core.specs.Steps.{StepsTo, Works}
 use Rattle.hb_log_codec.specs.Groups.{group_bytes}
@@ -35,6 +35,7 @@ use Rattle.hb_wal.specs.Log.{LogState, Waiting, mark_of}
 use Rattle.std.proofs.lemmas.Option.{same_Some}
 use Rattle.hb_lemmas.proofs.Pairs.{pairs_none}
 use Rattle.std.proofs.lemmas.List.Quantifiers.{all_pairs_push}
+use Rattle.std.specs.Option.{option_to_list}
 
 -- ---- groups and the files before them
 
@@ -151,7 +152,7 @@ module _ (n : RecordSet) (m : Machine) (files : Files) (new : Machine) (files' :
         joined more group op refl order_is (does.group ∙ ap (λ (l : LogState). l.groups ++ group ∷ []) log) files_are
 
     performed : (fetched : StoreState) (deed : Deed) → fetched.log ≡ m.store.log → Performs m fetched actor deed outcome new → KeepsMarks n m new files'
-    performed fetched deed log performs = done deed.op fetched (if_some deed.joins) log performs.order performs.files performs.store
+    performed fetched deed log performs = done deed.op fetched (option_to_list deed.joins) log performs.order performs.files performs.store
 
     flushed_more : FlushesMore m outcome new → KeepsMarks n m new files'
     flushed_more (none, inl (page, oldest, due, quiet, well)) = same (ap (λ (x : Machine). x.order) well.leaves) (ap (λ (x : Machine). x.store.log.groups) well.leaves) (ap (λ (x : Machine). x.files) well.leaves)

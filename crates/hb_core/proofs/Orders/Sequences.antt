@@ -1,7 +1,7 @@
 -- After a step each session still answers its lines in their order.
 use Rattle.std.proofs.Common.{◌≡◌, ◌≢◌, ◌⊎◌, inl, inr, ℕ, ◌<◌, ◌==◌, Bool, true, cond, List, [], ◌∷◌, ◌++◌, All, Option, Some, None, IfSome, refl, sym, ap, ◌∙◌, subst, ne_eqb}
 use Rattle.std.specs.List.{Contains}
-use Rattle.std.specs.Option.{IsSomeAnd}
+use Rattle.std.specs.Option.{IsSomeAnd, option_to_list}
 use Rattle.std.proofs.lemmas.Bool.{cases_Bool, eq-eqb, eqb-true, eqb-false}
 use Rattle.std.proofs.lemmas.List.Elements.{All-append, All-cons, All-nil}
 use Rattle.std.proofs.lemmas.Option.{none-some}
@@ -22,7 +22,7 @@ use Rattle.hb_core.proofs.Facts.NextLines.{IsNextOf, answered_before, earlier_an
 use Rattle.hb_core.proofs.Facts.StepKinds.{each_step, ready_kind}
 use Rattle.hb_core.proofs.Facts.Ways.{KeepsAllButDisk, same_answers, same_order, forces_so, meets_so, stays_so, more_so}
 use Rattle.hb_core.specs.KeptSequence.{LinesInSequence, awaited_number}
-use Rattle.hb_core.specs.Machines.{Machine, if_some, with_activity}
+use Rattle.hb_core.specs.Machines.{Machine, with_activity}
 use Rattle.hb_core.specs.OrderLaws.{SequenceStays}
 use Rattle.hb_core.specs.Performing.{Performs, given_by, outcome_of}
 use Rattle.hb_core.specs.Steps.{TakesMerging, TakesJob, Works}
@@ -211,7 +211,7 @@ module _ (m : Machine) (actor : ℕ) (outcome : Outcome) (new : Machine) (sequen
       quiet fetched deed idle (goes.quiet m.clock) goes.joins (subst (λ (o : Option Line). IfSome o (λ line. next_line actor m.answered m.lines ≡ Some line)) (sym goes.hand) (sequence.in_hand actor)) (waits_none deed.next goes.awaits) performs
   fated fetched deed idle (inr (inl takes)) performs =
       let is : next_line actor m.answered m.lines ≡ Some takes.line = at_value (line_in_hand (m.activity actor)) (λ line. next_line actor m.answered m.lines ≡ Some line) takes.line takes.hand (sequence.in_hand actor) in
-      done fetched deed m.answered (m.order ++ record { line = takes.line; reply = takes.reply } ∷ []) performs (same_answers m actor outcome new fetched deed performs (takes.quiet m.clock)) (performs.order ∙ ap (λ (o : Option Entry). m.order ++ if_some o) takes.joins)
+      done fetched deed m.answered (m.order ++ record { line = takes.line; reply = takes.reply } ∷ []) performs (same_answers m actor outcome new fetched deed performs (takes.quiet m.clock)) (performs.order ∙ ap (λ (o : Option Entry). m.order ++ option_to_list o) takes.joins)
       (takes_place m.lines m.answered m.activity m.order (sequence_of m sequence) actor deed.next takes.line takes.reply idle is (ap line_in_hand takes.next) (ap awaited_number takes.next))
   fated fetched deed idle (inr (inr gives)) performs =
       let is : next_line actor m.answered m.lines ≡ Some gives.line = at_value (line_in_hand (m.activity actor)) (λ line. next_line actor m.answered m.lines ≡ Some line) gives.line gives.hand (sequence.in_hand actor) in

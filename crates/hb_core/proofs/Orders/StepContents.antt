@@ -25,7 +25,7 @@ use Rattle.hb_core.specs.Asking.{wanted_by}
 use Rattle.hb_core.specs.ContentsLaws.{ChangesAt, ContentsFollowOrder, ContentsStep, PointsStay, contents_now}
 use Rattle.hb_core.specs.Forcing.{ForcesAll, StaysSo, forced_files}
 use Rattle.hb_core.specs.KeptLines.{LinesFit}
-use Rattle.hb_core.specs.Machines.{Files, Machine, current_file, if_some}
+use Rattle.hb_core.specs.Machines.{Files, Machine, current_file}
 use Rattle.hb_core.specs.Performing.{MayDo, Performs, files_after, with_effect}
 use Rattle.hb_core.specs.Steps.{StepsTo, Works}
 use Rattle.hb_layout.specs.Limits.{IsLayout}
@@ -42,6 +42,7 @@ use Rattle.hb_store.specs.States.{StoreState}
 use Rattle.hb_space.proofs.Facts.PointOrder.{same_point}
 use Rattle.hb_core.proofs.Memory.BroughtPages.{told_files}
 use Rattle.std.proofs.lemmas.Option.{same_Some}
+use Rattle.std.specs.Option.{option_to_list}
 
 -- ---- what an operation does
 
@@ -75,7 +76,7 @@ module _ (laws : OperationLaws) (points : HeldArePoints) (keep_contents : Operat
   -- a deed that does nothing to the file, and whose line doesn't take effect
   quiet : (fetched : StoreState) (deed : Deed) → deed.op ≡ None → deed.joins ≡ None → Performs m fetched actor deed outcome new → Follows
   quiet fetched deed none nobody performs =
-      unmoved files (performs.files ∙ ap (λ (o : _). files_after o m.files) none ∙ told) (performs.order ∙ ap (λ (o : Option Entry). m.order ++ if_some o) nobody ∙ append-nil m.order) refl
+      unmoved files (performs.files ∙ ap (λ (o : _). files_after o m.files) none ∙ told) (performs.order ∙ ap (λ (o : Option Entry). m.order ++ option_to_list o) nobody ∙ append-nil m.order) refl
 
   -- what is done in memory makes this of the contents
   becomes : (fetched : StoreState) (op : Option Op) (mark : ℕ) → KeepsPages fetched → FilesHold fetched files → Tells fetched op → MayDo op mark fetched new.store → new.files ≡ files_after op m.files
@@ -92,7 +93,7 @@ module _ (laws : OperationLaws) (points : HeldArePoints) (keep_contents : Operat
         subst (λ (f : FileState). ContentsBecomeBy (contents_of s) (contents_of f) (Some op)) (sym last) (becomes_so s op (keep_contents s op file.sound layout may.attributes may.allowed may.licensed)),
       )
 
-  joined : (after : Files) (joins : Option Entry) → new.order ≡ m.order ++ if_some joins → JoinsWith (contents_now files) (contents_now after) (m.activity actor) joins → ContentsStep m actor new (contents_now files) (contents_now after)
+  joined : (after : Files) (joins : Option Entry) → new.order ≡ m.order ++ option_to_list joins → JoinsWith (contents_now files) (contents_now after) (m.activity actor) joins → ContentsStep m actor new (contents_now files) (contents_now after)
   joined after None order same = inl (order ∙ append-nil m.order, same)
   joined after (Some entry) order takes = inr (entry, order, takes)
 

@@ -119,9 +119,6 @@ pub record KnowsOf (m : Machine) (activity : Activity) : Type 0 where
   pub splits : (held : ℕ) (line : Line) → activity ≡ at.SessionSplit line held → LacksRoom m line held
   pub puts : (source fresh : ℕ) (line : Line) → activity ≡ at.SessionPut line source fresh → HasRoom m line source fresh
 
-pub each_knows : (m : Machine) → KnowsRoom m → (actor : ℕ) → KnowsOf m (m.activity actor)
-each_knows m knows actor = record { splits = knows.splits actor; puts = knows.puts actor }
-
 pub all_know : (m : Machine) → ((actor : ℕ) → KnowsOf m (m.activity actor)) → KnowsRoom m
 all_know m each = record { splits = λ actor. (each actor).splits; puts = λ actor. (each actor).puts }
 

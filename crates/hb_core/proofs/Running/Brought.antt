@@ -217,15 +217,3 @@ brings_numbered m may st numbered brings = record {
     from_1 : (id : ℕ) (page : Page) → in_memory m.store id ≡ None → (in_memory m.store id ≡ Some page) ⊎ ((1 ≤ id) × (id ≤ m.store.meta.high) × IsGoodPage m.store.meta page) → 1 ≤ id
     from_1 id page none (inl was) = absurd (not_none (in_memory m.store id) page was none)
     from_1 id page none (inr good) = good.0
-
-files_again : (d : DiskModel) (m : Machine) (st : StoreState) (uses : List Use) → m.store ≡ st → ShowsFiles d m → ShowsFiles d (with_uses uses (with_disk st m.files m.clock m))
-files_again d m st uses same s = record {
-  files = s.files;
-  told = s.told;
-  kept = subst (λ (x : StoreState). StoreKeeps d x s.files.durable s.files.later) same s.kept;
-  clock = s.clock;
-}
-
--- the core shows the machine with the pages that it has
-pub shows_again : (d : DiskModel) (c : RunningCore) (m : Machine) → ShowsMachine d c m → ShowsMachine d c (with_uses c.uses (with_disk c.store m.files m.clock m))
-shows_again d c m shows = shown_with d d c c.store c.uses m shows c.store c.uses m.files m.clock refl refl (λ told. files_again d m c.store c.uses shows.store (shows.tells told)) shows.silent

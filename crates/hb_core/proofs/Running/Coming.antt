@@ -1,7 +1,6 @@
 -- The wanted page comes and is the one that was asked for, or the step halts.
-use Rattle.std.proofs.Common.{◌≡◌, ◌≢◌, ◌⊎◌, inl, inr, ℕ, true, false, List, [], ◌∷◌, Option, Some, None, Result, Ok, Err, IfOk, IfSome, IsSome, IsTrue, refl, sym, ap, ◌∙◌, subst, arith, ◌<◌}
+use Rattle.std.proofs.Common.{◌≡◌, ◌≢◌, ◌⊎◌, inl, inr, ℕ, false, List, [], ◌∷◌, Option, Some, None, IfSome, IsTrue, refl, sym, ap, ◌∙◌, subst, arith, ◌<◌}
 use Rattle.std.specs.Option.{IsSomeAnd, option_and_then, option_map, MatchOption}
-use Rattle.std.specs.Result.{OnOk}
 use Rattle.std.proofs.lemmas.List.Elements.{All-head}
 use Rattle.std.proofs.lemmas.Option.{same_Some}
 use Rattle.hb_disk.specs.Model.{DiskModel}
@@ -39,14 +38,14 @@ use Rattle.hb_core.specs.declared.halts.Halt.{Halt}
 use Rattle.hb_core.specs.declared.halts.Halt.TheVariants.{Stops}
 use Rattle.hb_core.proofs.Files.SoundFiles.{current_sound, files_hold}
 use Rattle.hb_core.proofs.Machines.PinsFollow.{more_number}
-use Rattle.hb_core.proofs.Running.Brought.{brings_none, brings_wider, fetch_brings, shows_again, shows_store}
+use Rattle.hb_core.proofs.Running.Brought.{brings_none, brings_wider, fetch_brings, shows_store}
 use Rattle.hb_core.proofs.Running.Frames.{may_pin, shown_stays, shown_tied}
 use Rattle.hb_core.proofs.Running.Pins.{one_itself, pinned_frame, tied_unpinned}
 use Rattle.hb_core.proofs.Running.LeafBoxes.{Asks, child_asks_there, place_asks_there, sibling_asks_there}
 use Rattle.hb_core.proofs.Running.Looks.{may_look, names_stay, wants_same}
 use Rattle.hb_core.proofs.Running.StandsElsewhere.{shows_but, stands_as}
 use Rattle.hb_core.specs.Acting.{IsBadWanted, LacksNeeded, MayNeed}
-use Rattle.hb_core.specs.Asking.{AskedBox, IsNotAsked, asked_box, box_at, box_by_leaf, box_of_child, box_of_place, box_of_sibling, wanted_by, whole_box}
+use Rattle.hb_core.specs.Asking.{AskedBox, IsNotAsked, around_box, asked_box, box_at, box_by_leaf, box_of_child, box_of_place, box_of_sibling, this_box, wanted_by, whole_box}
 use Rattle.hb_core.specs.Fetching.{Brings, IsDamaged, IsWantedPage}
 use Rattle.hb_core.specs.Keeps.{HasSoundFile}
 use Rattle.hb_core.specs.KeptMerges.{NamesKnown, merging_at}
@@ -60,16 +59,7 @@ use Rattle.hb_core.specs.Machines.{Files, Machine, current_file, live_here, with
 use Rattle.hb_core.specs.Rows.{IsAtHand}
 use Rattle.hb_core.specs.Showing.{RunningCore, ShowsMachine}
 use Rattle.hb_core.specs.Stopping.{IsHaltOf}
-use Rattle.hb_core.specs.Working.{HasCome, Halts, IsHalt, IsWorking, MayStep, MayWork, with_memory}
-
--- what is known where a call went well is known of its value
-pub ok_then : {T E : Type 0} (r : Result T E) (P : Type 0) (Q : T → Type 0) → (P → (x : T) → Q x) → OnOk r P → IfOk r Q
-ok_then (Ok x) P Q so known = so known x
-ok_then (Err e) P Q so known = known
-
-pub none_where : {T : Type 0} (o : Option T) → (IsSome o → ⊥) → o ≡ None
-none_where None never = refl
-none_where (Some x) never = absurd (never refl)
+use Rattle.hb_core.specs.Working.{HasCome, Halts, IsHalt, IsWorking, MayStep, MayWork}
 
 -- what a call that reads did, it did still after one that changes no page and no disk
 pub looks_kept : {failed : Type 0} {d e f : DiskModel} {old middle st : StoreState} → f ≡ e → st ≡ middle → LooksUp failed d e old middle → LooksUp failed d f old st
@@ -79,8 +69,8 @@ looks_kept {failed} {d} {e} {f} {old} {middle} {st} disk seen looks = subst (λ 
 
 leaf_asks : (mode : ℕ → Mode) (level : ℕ) (leaf : Leaf) (area : Area) (wanted : Wanted) → in_mode mode (named_page level leaf) ≡ Some wanted → Asks (box_by_leaf (record { leaf = leaf; area = area }))
 leaf_asks mode level (Records records) area wanted wants = cc
-leaf_asks mode level (Child page) area wanted wants = (record { area = area; exact = false }, refl)
-leaf_asks mode level (Sibling page) area wanted wants = (record { area = area; exact = true }, refl)
+leaf_asks mode level (Child page) area wanted wants = (around_box area, refl)
+leaf_asks mode level (Sibling page) area wanted wants = (this_box area, refl)
 
 placed_asks : (mode : ℕ → Mode) (level : ℕ) (o : Option Placed) (wanted : Wanted) → in_mode mode (option_and_then (λ (l : Placed). named_page level l.leaf) o) ≡ Some wanted → Asks (option_and_then box_by_leaf o)
 placed_asks mode level None wanted wants = cc
@@ -93,7 +83,7 @@ walk_asks mode (Some p) held meta (Some page) wanted wants = placed_asks mode pa
 
 child_leaf_asks : (level : ℕ) (leaf : Leaf) (area : Area) (wanted : Wanted) → in_mode (λ level. Shared) (named_child level leaf) ≡ Some wanted → Asks (box_by_leaf (record { leaf = leaf; area = area }))
 child_leaf_asks level (Records records) area wanted wants = cc
-child_leaf_asks level (Child page) area wanted wants = (record { area = area; exact = false }, refl)
+child_leaf_asks level (Child page) area wanted wants = (around_box area, refl)
 child_leaf_asks level (Sibling page) area wanted wants = cc
 
 child_placed_asks : (level : ℕ) (o : Option Placed) (wanted : Wanted) → in_mode (λ level. Shared) (option_and_then (λ (l : Placed). named_child level l.leaf) o) ≡ Some wanted → Asks (option_and_then box_by_leaf o)
@@ -177,22 +167,8 @@ looked_brings d e c m step failed st looks id memory fetched stays =
     fetch_brings m d e c failed st step.shows looks id memory fetched (λ q must. stays q (shown_stays d c m step q must) ∙ ap (λ (x : StoreState). in_memory x q) (sym step.shows.store))
 
 module _ (m : Machine) (d : DiskModel) (c : RunningCore) (actor : ℕ) (latches : IsActor actor) (step : MayStep d c m) (work : MayWork m actor) where
-  abbrev here : StoreState
-  here = c.store
-
   abbrev activity : Activity
   activity = m.activity actor
-
-  -- no page is wanted
-  pub none_wanted : wanted_by m actor ≡ None → HasCome m actor d c
-  none_wanted none = record {
-    may = work;
-    brings = brings_none m (IsWantedPage (wanted_by m actor)) c.store step.shows.store;
-    shows = shows_again d c m step.shows;
-    at_hand = subst (λ (o : Option Wanted). IfSome o (λ wanted. (page : LivePage) × IsAtHand (with_memory c m) (m.activity actor) wanted page)) (sym none) tt;
-    uses = sym step.shows.uses ∙ ap (λ (o : Option Wanted). use_wanted o m.uses) (sym none);
-    tied = shown_tied d c m step;
-  }
 
   module _ (wanted : Wanted) (wants : wanted_by m actor ≡ Some wanted) where
     needs_it : (st : StoreState) (id : ℕ) → id ≡ wanted.page → MayNeed m actor st id

@@ -15,7 +15,7 @@ use Rattle.hb_core.specs.declared.outcomes.Outcome.{Outcome}
 use Rattle.hb_core.specs.KeptSequence.{LinesInSequence}
 use Rattle.hb_core.specs.Fetching.{MustStay}
 use Rattle.hb_store.specs.Calls.{StaysHere}
-use Rattle.hb_core.specs.Machines.{Files, Machine, if_some, with_activity}
+use Rattle.hb_core.specs.Machines.{Files, Machine, with_activity}
 use Rattle.hb_core.specs.Moving.{DoesDeed, KeepsFilesBy, later_with, numbers_joined, with_standing}
 use Rattle.hb_core.specs.Performing.{ChangesQueue, MayDo, Performs, Relatches, files_after, given_by, latches_held, outcome_of}
 use Rattle.hb_core.specs.Showing.{RunningCore, ShowsFiles, ShowsMachine}
@@ -23,6 +23,7 @@ use Rattle.hb_core.specs.Working.{ShowsBut, with_memory}
 use Rattle.hb_core.proofs.Running.NumbersInHand.{NumberFate, line_of_number}
 use Rattle.hb_core.proofs.Running.StandsElsewhere.{stand_then, still_all}
 use Rattle.hb_core.proofs.Running.TurnsAfter.{has_turn, turn_after, turn_at}
+use Rattle.std.specs.Option.{option_to_list}
 
 -- the machine after a deed, with what the core holds then
 abbrev pub after_deed : RunningCore → Machine → ℕ → Deed → Machine
@@ -32,7 +33,7 @@ after_deed c m actor deed = record {
   activity = with_activity actor deed.next m.activity;
   latches = c.latches;
   jobs = c.jobs;
-  order = m.order ++ if_some deed.joins;
+  order = m.order ++ option_to_list deed.joins;
   stop = m.stop;
   store = c.store;
   uses = c.uses;
@@ -40,7 +41,7 @@ after_deed c m actor deed = record {
   clock = m.clock;
 }
 
-joined_numbers : (joins : Option Entry) → map (λ (e : Entry). e.line.number) (if_some joins) ≡ numbers_joined joins
+joined_numbers : (joins : Option Entry) → map (λ (e : Entry). e.line.number) (option_to_list joins) ≡ numbers_joined joins
 joined_numbers None = refl
 joined_numbers (Some entry) = refl
 
@@ -110,8 +111,8 @@ module _ (d : DiskModel) (c after : RunningCore) (m : Machine) (actor : ℕ) (de
       nobody_else = nobody_new;
       latches = refl;
       jobs = refl;
-      order = map-append (λ (e : Entry). e.line.number) m.order (if_some deed.joins)
-          ∙ ap (λ (l : List ℕ). l ++ map (λ (e : Entry). e.line.number) (if_some deed.joins)) shows.order
+      order = map-append (λ (e : Entry). e.line.number) m.order (option_to_list deed.joins)
+          ∙ ap (λ (l : List ℕ). l ++ map (λ (e : Entry). e.line.number) (option_to_list deed.joins)) shows.order
           ∙ ap (λ (l : List ℕ). c.order ++ l) (joined_numbers deed.joins) ∙ sym does.order;
       stop = shows.stop ∙ sym (of_core (λ s. s.stop));
       store = refl;

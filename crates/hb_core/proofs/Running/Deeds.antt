@@ -24,7 +24,7 @@ use Rattle.hb_store.specs.Held.{IsTied}
 use Rattle.hb_core.proofs.Running.Pins.{tied_held}
 use Rattle.hb_core.specs.declared.counts.TidyCounts.{TidyCounts}
 use Rattle.hb_core.specs.Counts.{counted_by}
-use Rattle.hb_core.specs.Moving.{DoesDeed, KeepsStaying, StandsFree, StandsNow, joins_order, number_of, numbers_joined, placed, placed_at, pushed, said, with_counts, with_jobs, with_order, with_order_of_use, with_standing, with_store}
+use Rattle.hb_core.specs.Moving.{DoesDeed, KeepsStaying, StandsFree, StandsNow, joins_order, number_of, numbers_joined, placed, placed_at, said, with_counts, with_jobs, with_order, with_order_of_use, with_standing, with_store}
 use Rattle.hb_core.specs.Pinning.{CanMovePins, CanUnpin}
 use Rattle.hb_core.specs.Using.{pages_of, use_done, use_held}
 use Rattle.hb_core.specs.Performing.{MayDo, Relatches, latches_held, outcome_of}
@@ -34,6 +34,7 @@ use Rattle.hb_core.specs.KeptFits.{class_for}
 use Rattle.hb_core.proofs.Table.DeedKinds.{line_is_sessions}
 use Rattle.hb_core.proofs.Table.GivenUp.{given_up_is, idle_latches}
 use Rattle.std.proofs.lemmas.Option.{same_Some, none-some}
+use Rattle.std.specs.Option.{option_to_list}
 
 -- a deed, by what became of the store, the order of use, the jobs, the latches and the counts
 pub does_deed : (actor : ℕ) (pins : List ℕ) (deed : Deed) (outcome : Outcome) (old new : RunningCore) (store : StoreState) (uses : List Use) (left jobs : List Job) (latches : LatchTable) (counts : TidyCounts)
@@ -57,7 +58,7 @@ does_deed actor pins deed outcome old new store uses left jobs latches counts sa
     })
 
 -- the number of the line that joins the order, and what is said
-joined_so : (hand : Hand) (then : Activity) (fate : Fate) → pushed (joins_order (number_of hand) then fate) ≡ numbers_joined (joined_by hand then fate)
+joined_so : (hand : Hand) (then : Activity) (fate : Fate) → option_to_list (joins_order (number_of hand) then fate) ≡ numbers_joined (joined_by hand then fate)
 joined_so Empty (at.SessionAwait number reply place) fates.GoesOn = refl
 joined_so Empty (at.SessionAwait number reply place) fates.TakesEffect = refl
 joined_so Empty (at.SessionAwait number reply place) (fates.Answers given) = refl
@@ -106,7 +107,7 @@ pub performed : (actor place : ℕ) (pins : List ℕ) (line joins : Option ℕ) 
     → MayDo next.op place old.store done.store → done.uses ≡ use_done next.op old.store old.uses → KeepsStaying next.op old done.store → IsTied done.store done.uses
     → done ≡ with_order_of_use done.uses (with_store done.store old) → AddsJobs next.jobs.items done.jobs queued.jobs → queued ≡ with_jobs queued.jobs done
     → CanMovePins pins (pages_of (latches_held done.store stands_as)) done.uses
-    → StandsNow actor pins stands_as queued stood → ordered ≡ with_order (stood.order ++ pushed joins) stood → counts ≡ counted_by actor next.op old.done → new ≡ with_counts counts ordered
+    → StandsNow actor pins stands_as queued stood → ordered ≡ with_order (stood.order ++ option_to_list joins) stood → counts ≡ counted_by actor next.op old.done → new ≡ with_counts counts ordered
     → DoesDeed actor pins (placed (length old.order) (deed_of state next)) outcome old new
 performed actor place pins line joins next stands_as outcome counts old done queued stood ordered new state hand at_end is_next is_joined is_said does used stay tied kept adds queued_so can stands joined counted counting =
     let deed : Deed = placed (length old.order) (deed_of state next) in
@@ -114,9 +115,9 @@ performed actor place pins line joins next stands_as outcome counts old done que
     let jobs_so : queued ≡ record old { store = done.store; uses = done.uses; jobs = queued.jobs } = queued_so ∙ ap (with_jobs queued.jobs) kept in
     let stood_so : stood ≡ record (with_standing actor stands_as old) { store = done.store; uses = stood.uses; jobs = queued.jobs; latches = stood.latches } =
     stands.rest ∙ ap (λ (c : RunningCore). record (with_standing actor stands_as c) { latches = stood.latches; uses = stood.uses }) jobs_so in
-    let all : new ≡ record (with_standing actor stands_as old) { store = done.store; uses = stood.uses; jobs = queued.jobs; latches = stood.latches; order = old.order ++ pushed joins; done = counts } =
-    counting ∙ ap (with_counts counts) joined ∙ ap (λ (c : RunningCore). with_counts counts (with_order (c.order ++ pushed joins) c)) stood_so in
-    let numbers : pushed joins ≡ numbers_joined deed.joins = ap pushed (is_joined ∙ ap (λ (l : Option ℕ). joins_order l next.then next.fate) hand) ∙ joined_so (hand_of state) next.then next.fate in
+    let all : new ≡ record (with_standing actor stands_as old) { store = done.store; uses = stood.uses; jobs = queued.jobs; latches = stood.latches; order = old.order ++ option_to_list joins; done = counts } =
+    counting ∙ ap (with_counts counts) joined ∙ ap (λ (c : RunningCore). with_counts counts (with_order (c.order ++ option_to_list joins) c)) stood_so in
+    let numbers : option_to_list joins ≡ numbers_joined deed.joins = ap option_to_list (is_joined ∙ ap (λ (l : Option ℕ). joins_order l next.then next.fate) hand) ∙ joined_so (hand_of state) next.then next.fate in
     let held : stood.uses ≡ use_held pins (pages_of (latches_held done.store stands_as)) done.uses =
     stands.uses ∙ ap (λ (c : RunningCore). use_held pins (pages_of (latches_held c.store stands_as)) c.uses) jobs_so in
     does_deed actor pins deed outcome old new done.store stood.uses old.jobs queued.jobs stood.latches counts

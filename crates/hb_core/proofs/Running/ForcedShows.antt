@@ -1,10 +1,10 @@
 -- A force of a core's store is a force of the machine that it shows, or stops it.
-use Rattle.std.proofs.Common.{◌≡◌, ◌≢◌, ◌⊎◌, inl, inr, ℕ, ◌+◌, ◌≤◌, false, List, [], ◌∷◌, Option, Some, None, IsSome, IfSome, Ok, Err, refl, sym, ap, ◌∙◌, subst, arith}
+use Rattle.std.proofs.Common.{◌≡◌, ◌≢◌, ◌⊎◌, inl, inr, ℕ, ◌+◌, ◌≤◌, List, [], ◌∷◌, Option, Some, None, IsSome, IfSome, Ok, Err, refl, sym, ap, ◌∙◌, subst, arith}
 use Rattle.std.specs.Option.{option_map}
 use Rattle.hb_disk.specs.Model.{DiskModel}
 use Rattle.hb_lemmas.proofs.Options.{was_some, not_there}
 use Rattle.hb_ops.specs.Files.{FileState, last_of}
-use Rattle.hb_store.specs.Forced.{MayWriteGroups, WritesGroups, forced_state, stopped_state}
+use Rattle.hb_store.specs.Forced.{WritesGroups, forced_state, stopped_state}
 use Rattle.hb_store.specs.Keeps.{StoreKeeps}
 use Rattle.hb_store.specs.States.{StoreState}
 use Rattle.hb_store.specs.declared.stops.StopWhy.{StopWhy}
@@ -20,7 +20,6 @@ use Rattle.hb_core.specs.Moving.{with_order_of_use, with_stop, with_store}
 use Rattle.hb_disk.specs.Calls.{Becomes}
 use Rattle.hb_pool.specs.Frames.{Use}
 use Rattle.hb_core.specs.Showing.{RunningCore, ShowsFiles, ShowsMachine}
-use Rattle.hb_core.specs.Working.{MayStep}
 use Rattle.std.proofs.lemmas.Bool.{false≢true}
 
 -- ---- where a disk tells its bytes
@@ -40,12 +39,6 @@ waits_or_not [] = inl refl
 waits_or_not (first ∷ rest) = inr (λ never. cc)
 
 -- ---- the store may write
-
-pub may_write : (d : DiskModel) (c : RunningCore) (m : Machine) → MayStep d c m → m.stop ≡ None → MayWriteGroups d c.store
-may_write d c m may runs = record {
-  running = subst (λ (s : StoreState). s.stopped ≡ false) may.shows.store (may.goes_on.kept.runs runs);
-  kept = λ told. let had = may.shows.tells told in (had.files.durable, had.files.later, subst (λ (s : StoreState). StoreKeeps d s had.files.durable had.files.later) may.shows.store had.kept);
-}
 
 -- ---- another disk, store and clock
 

@@ -90,9 +90,6 @@ module _ (m : Machine) (d : DiskModel) (c : RunningCore) (actor : ℕ) (free : O
   brings : Brings m AnyPage c.store
   brings = brings_wider m _ AnyPage c.store (λ id is. tt) has.brings
 
-  before : List ℕ
-  before = page_wanted (wanted_by m actor) ++ pages_of (latches_held m.store (m.activity actor))
-
   module _ (st : StoreState) (done : MayDo deed.op (length m.order) c.store st) (uses : List Use) (used : uses ≡ use_done deed.op c.store c.uses) (tied : IsTied st uses) where
     pins_now : (q : ℕ) → pins_of uses q ≡ pins_of m.uses q + times q (page_wanted (wanted_by m actor))
     pins_now q = ap (λ (l : List Use). pins_of l q) used ∙ (stay_done deed.op c.store c.uses has.tied.pool.distinct).pins q ∙ (pinned_so m d c actor free may has).pins q

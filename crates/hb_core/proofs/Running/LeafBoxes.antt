@@ -1,10 +1,10 @@
 -- The box of a leaf of a page: how many attributes it has, and that it is there.
-use Rattle.std.proofs.Common.{◌≡◌, ℕ, zero, suc, ◌==◌, Bool, true, false, cond, List, [], ◌∷◌, length, map, Option, Some, None, IsSome, IfSome, IsTrue, refl, ap, ◌∙◌, arith}
+use Rattle.std.proofs.Common.{◌≡◌, ℕ, zero, suc, ◌==◌, true, false, cond, List, [], ◌∷◌, length, Option, Some, None, IsSome, IfSome, IsTrue, refl, ap, ◌∙◌, arith}
 use Rattle.std.specs.List.{All, Contains, slice_get}
 use Rattle.std.specs.Option.{option_and_then, option_map}
-use Rattle.std.proofs.lemmas.List.Elements.{All-contains, All-head, All-tail, All-weaker}
+use Rattle.std.proofs.lemmas.List.Elements.{All-contains, All-weaker}
 use Rattle.hb_space.specs.Boxes.{Area}
-use Rattle.hb_frag.proofs.Facts.Tiles.{leaves_placed, tiles_attributes}
+use Rattle.hb_frag.proofs.Facts.Tiles.{tiles_attributes}
 use Rattle.hb_frag.specs.declared.leaves.Leaf.{Leaf}
 use Rattle.hb_frag.specs.declared.leaves.Leaf.TheVariants.{Records, Child, Sibling}
 use Rattle.hb_frag.specs.declared.pages.LivePage.{LivePage}
@@ -13,8 +13,11 @@ use Rattle.hb_lemmas.proofs.Booleans.{at_itself}
 use Rattle.hb_lemmas.proofs.Lists.{place_member}
 use Rattle.hb_ops.proofs.Facts.PlacedLaws.{placed, sibling_is_leaf}
 use Rattle.hb_consol.specs.ConsolidatorRows.{names_child}
-use Rattle.hb_core.proofs.Files.AskedPages.{first_sibling_among, named_with_box}
-use Rattle.hb_core.specs.Asking.{AskedBox, box_by_leaf, box_of_child, box_of_place, box_of_sibling, first_child_box}
+use Rattle.hb_core.proofs.Files.AskedPages.{first_box_among, named_with_box, leaf_of_place, first_child_among}
+use Rattle.hb_core.specs.declared.asking.BoxTest.{BoxTest}
+use Rattle.hb_core.specs.declared.asking.BoxTest.TheVariants.{Around}
+use Rattle.hb_core.specs.Asking.{AskedBox, around_box, box_by_leaf, box_of_child, box_of_place, box_of_sibling, first_child_box, this_box}
+use Rattle.hb_lemmas.proofs.Options.{if_value}
 
 -- ---- how many attributes it has
 
@@ -29,20 +32,14 @@ module _ (k : ℕ) where
   all_many page many = All-weaker (λ (l : Placed). length l.area.lo ≡ length page.area.lo) IsMany (λ l long. long ∙ many) (leaves_of page.frag page.area) (tiles_attributes page.frag page.area)
 
   first_many : (name : ℕ) (xs : List Placed) → All IsMany xs → IfSome (first_child_box name xs) (λ area. length area.lo ≡ k)
-  first_many name [] all = tt
-  first_many name (x ∷ xs) all = by x.leaf x.area (All-head IsMany x xs all) (first_many name xs (All-tail IsMany x xs all))
-    where
-      by : (leaf : Leaf) (area : Area) → length area.lo ≡ k → IfSome (first_child_box name xs) (λ area. length area.lo ≡ k) → IfSome (first_child_box name (placed leaf area ∷ xs)) (λ area. length area.lo ≡ k)
-      by (Records records) area here later = later
-      by (Sibling page) area here later = later
-      by (Child page) area here later = elim (page == name) as (λ b. IfSome (cond b (Some area) (first_child_box name xs)) (λ area. length area.lo ≡ k)) [ true ↦ here | false ↦ later ]
+  first_many name xs all = if_value (first_child_box name xs) (λ area. length area.lo ≡ k) (λ area is. All-contains IsMany xs (placed (Child name) area) all (first_child_among name xs area is))
 
-  with_exact : (exact : Bool) (o : Option Area) → IfSome o (λ area. length area.lo ≡ k) → HasMany (option_map (λ (area : Area). record { area = area; exact = exact }) o)
-  with_exact exact None many = tt
-  with_exact exact (Some area) many = many
+  with_test : (test : BoxTest) (o : Option Area) → IfSome o (λ area. length area.lo ≡ k) → HasMany (option_map (λ (area : Area). record { area = area; test = test }) o)
+  with_test test None many = tt
+  with_test test (Some area) many = many
 
   pub child_many : (page : LivePage) (name : ℕ) → length page.area.lo ≡ k → HasMany (box_of_child (Some page) name)
-  child_many page name many = with_exact false (first_child_box name (leaves_of page.frag page.area)) (first_many name (leaves_of page.frag page.area) (all_many page many))
+  child_many page name many = with_test Around (first_child_box name (leaves_of page.frag page.area)) (first_many name (leaves_of page.frag page.area) (all_many page many))
 
   leaf_many : (leaf : Leaf) (area : Area) → length area.lo ≡ k → HasMany (box_by_leaf (placed leaf area))
   leaf_many (Records records) area many = tt
@@ -59,9 +56,9 @@ module _ (k : ℕ) where
   pub sibling_many : (page : LivePage) (name : ℕ) → length page.area.lo ≡ k → HasMany (box_of_sibling (Some page) name)
   sibling_many page name many = by (first_named name (siblings_of page)) refl
     where
-      by : (o : Option Area) → first_named name (siblings_of page) ≡ o → HasMany (option_map (λ (area : Area). record { area = area; exact = true }) o)
+      by : (o : Option Area) → first_named name (siblings_of page) ≡ o → HasMany (option_map this_box o)
       by None is = tt
-      by (Some area) is = All-contains IsMany (leaves_of page.frag page.area) (placed (Sibling name) area) (all_many page many) (sibling_is_leaf (leaves_of page.frag page.area) name area (first_sibling_among name (siblings_of page) area is))
+      by (Some area) is = All-contains IsMany (leaves_of page.frag page.area) (placed (Sibling name) area) (all_many page many) (sibling_is_leaf (leaves_of page.frag page.area) name area (first_box_among name (siblings_of page) area is))
 
 -- ---- that it is there
 
@@ -83,21 +80,16 @@ pub child_asks_there : (page : LivePage) (name : ℕ) → IsTrue (names_child pa
 child_asks_there page name named =
     let leaf = named_with_box page name named in
     let box = some_child name (leaves_of page.frag page.area) leaf.0 leaf.1 in
-    (record { area = box.0; exact = false }, ap (option_map (λ (area : Area). record { area = area; exact = false })) box.1)
-
-leaf_there : (xs : List Placed) (place : ℕ) (leaf : Leaf) → slice_get (map (λ (x : Placed). x.leaf) xs) place ≡ Some leaf → (b : Area) × (slice_get xs place ≡ Some (placed leaf b))
-leaf_there [] place leaf is = cc
-leaf_there (x ∷ xs) zero leaf is = let same : x.leaf ≡ leaf = cc in (x.area, ap (λ (l : Leaf). Some (placed l x.area)) same)
-leaf_there (x ∷ xs) (suc place) leaf is = leaf_there xs place leaf is
+    (around_box box.0, ap (option_map around_box) box.1)
 
 pub place_asks_there : (page : LivePage) (place name : ℕ) → slice_get (leaves page.frag) place ≡ Some (Sibling name) → Asks (box_of_place (Some page) place)
 place_asks_there page place name is =
-    let there = leaf_there (leaves_of page.frag page.area) place (Sibling name) (ap (λ (ls : List Leaf). slice_get ls place) (leaves_placed page.frag page.area) ∙ is) in
-    (record { area = there.0; exact = true }, ap (option_and_then box_by_leaf) there.1)
+    let l = leaf_of_place page.frag page.area place (Sibling name) is in
+    (this_box l.0.area, ap (option_and_then box_by_leaf) l.1 ∙ ap (λ (x : Leaf). box_by_leaf (placed x l.0.area)) l.2)
 
 pub sibling_asks_there : (page : LivePage) (name : ℕ) → IsSome (first_named name (siblings_of page)) → Asks (box_of_sibling (Some page) name)
 sibling_asks_there page name some = by (first_named name (siblings_of page)) some
   where
-    by : (o : Option Area) → IsSome o → Asks (option_map (λ (area : Area). record { area = area; exact = true }) o)
+    by : (o : Option Area) → IsSome o → Asks (option_map this_box o)
     by None none = cc
-    by (Some area) found = (record { area = area; exact = true }, refl)
+    by (Some area) found = (this_box area, refl)

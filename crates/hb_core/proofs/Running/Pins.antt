@@ -24,9 +24,6 @@ times_first id rest = let one = one_itself id in omega (arith, one)
 
 -- ---- a frame, and its pins
 
-pub pins_there : (uses : List Use) (id : ℕ) (u : Use) → frame_of uses id ≡ Some u → pins_of uses id ≡ u.pins
-pins_there uses id u is = ap (λ (o : Option Use). option_map_or (λ (u : Use). u.pins) o 0) is
-
 pub pinned_frame : (uses : List Use) (id : ℕ) → 0 < pins_of uses id → IsSomeAnd (frame_of uses id) (λ (u : Use). 0 < u.pins)
 pinned_frame uses id some = by (frame_of uses id) some
   where

@@ -26,15 +26,12 @@ use Rattle.hb_core.specs.Working.{MayStep}
 use Rattle.hb_core.proofs.Running.ForcedShows.{fails, forces, group_waits, with_held}
 use Rattle.hb_core.proofs.Running.LineTaken.{deed_done}
 use Rattle.hb_core.proofs.Running.NumbersInHand.{kept_number}
-use Rattle.hb_core.proofs.Running.StandsElsewhere.{shown_length, stands_as}
+use Rattle.hb_core.proofs.Running.StandsElsewhere.{stands_as}
+use Rattle.hb_core.proofs.Facts.LaterPages.{same_settled}
 
 -- the machine stands as the core
 pub awaits_as : (d : DiskModel) (c : RunningCore) (m : Machine) (actor number place : ℕ) (reply : Reply) → IsActor actor → MayStep d c m → StandsAs c actor (at.SessionAwait number reply place) → m.activity actor ≡ at.SessionAwait number reply place
 awaits_as d c m actor number place reply may step stands = stands_as d c m actor (at.SessionAwait number reply place) may step.shows stands
-
--- the places that are settled are the machine's
-same_settled : (d : DiskModel) (c : RunningCore) (m : Machine) → ShowsMachine d c m → settled_count m ≡ mark_of c.store.log.groups (length c.order)
-same_settled d c m shows = ap (λ (s : StoreState). mark_of s.log.groups (length m.order)) shows.store ∙ ap (mark_of c.store.log.groups) (shown_length d c m shows)
 
 -- who awaits its place holds no latch
 no_latch : (d : DiskModel) (c : RunningCore) (m : Machine) (actor number place : ℕ) (reply : Reply) → IsActor actor → MayStep d c m → m.activity actor ≡ at.SessionAwait number reply place → (page : ℕ) → mode_at c.latches actor page ≡ None

@@ -5,17 +5,14 @@ use Rattle.std.specs.Option.{option_and_then}
 use Rattle.std.proofs.lemmas.Bool.{cases_Bool, eqb-true}
 use Rattle.hb_frag.specs.declared.pages.LivePage.{LivePage}
 use Rattle.hb_layout.specs.declared.meta.Meta.{Meta}
-use Rattle.hb_layout.specs.Limits.{IsLayout}
-use Rattle.hb_ops.specs.Sound.{FitsFile}
 use Rattle.hb_activity.specs.declared.activities.Activity.{Activity}
 use Rattle.hb_activity.specs.declared.activities.Activity.TheVariants as at
 use Rattle.hb_activity.specs.Deciding.{FitsFree, given_pages, given_sight, page_among}
 use Rattle.hb_activity.specs.Deeds.{Deed}
-use Rattle.hb_consol.specs.Asks.{MayAskToMerge, pages_given}
+use Rattle.hb_consol.specs.Asks.{pages_given}
 use Rattle.hb_consol.specs.MergeRows.{ConsolidatorRow}
-use Rattle.hb_point.specs.Asks.{MayAsk}
 use Rattle.hb_point.specs.SessionRows.{PointRow}
-use Rattle.hb_poster.specs.Asks.{MakesPage, MayBeAsked}
+use Rattle.hb_poster.specs.Asks.{MakesPage}
 use Rattle.hb_poster.specs.PosterRows.{PosterRow}
 use Rattle.hb_search.specs.Searching.{SearchRow}
 use Rattle.hb_store.specs.States.{StoreState}
@@ -24,7 +21,7 @@ use Rattle.hb_core.proofs.Running.LiftedMerges.{lifted_merger}
 use Rattle.hb_core.proofs.Running.LiftedRows.{IsSeenIn, lifted_point, lifted_poster, lifted_search}
 use Rattle.hb_core.specs.AskingDeciders.{AsksPoint, AsksPoster, HasPointRow, HasPosterRow, HasSearchRow, sight_in}
 use Rattle.hb_core.specs.Looking.{other_number, other_page}
-use Rattle.hb_core.specs.LookingToMerge.{AsksMerger, HasMergerRow, second_number, second_page}
+use Rattle.hb_core.specs.LookingToMerge.{HasMergerRow, second_number, second_page}
 use Rattle.hb_core.specs.Machines.{live_here, next_of}
 use Rattle.hb_core.specs.Moving.{placed}
 
@@ -59,26 +56,6 @@ module _ (st : StoreState) (activity : Activity) (n : ℕ) (free : Option (ℕ �
   same_page : (asked : LivePage) → live_here st n ≡ Some asked → asked ≡ page
   same_page asked there = same_Some asked page (sym there ∙ live_there)
 
-  -- what the decider relies on, of what it was given
-  given_layout : IsLayout st.meta → IsLayout meta
-  given_layout layout = subst IsLayout (sym is_meta) layout
-
-  given_made : (asked : LivePage) → live_here st n ≡ Some asked → FitsFile st.meta asked → FitsFile meta page
-  given_made asked there made = subst (λ (m : Meta). FitsFile m page) (sym is_meta) (subst (FitsFile st.meta) (same_page asked there) made)
-
-  pub point_layout : AsksPoint st activity n free → IsLayout meta
-  point_layout asks = given_layout asks.layout
-
-  pub point_made : AsksPoint st activity n free → FitsFile meta page
-  point_made asks = given_made asks.page asks.live asks.made
-
-  pub point_asked : AsksPoint st activity n free → MayAsk activity meta free id page first
-  point_asked asks =
-      subst (λ (m : Meta). MayAsk activity m free id page first) (sym is_meta)
-      (subst (λ (k : ℕ). MayAsk activity st.meta free k page first) (sym is_id)
-      (subst (λ (o : Option LivePage). MayAsk activity st.meta free n page o) (sym other)
-      (subst (λ (q : LivePage). MayAsk activity st.meta free n q (other_page st activity)) (same_page asks.page asks.live) asks.asked)))
-
   pub point_said : AsksPoint st activity n free → (deed : Deed) → PointRow activity (given_sight meta (given_pages activity id page first) free) id page deed → (place : ℕ) → HasPointRow st activity n place (placed place deed)
   point_said asks deed row place = (
     page,
@@ -94,18 +71,6 @@ module _ (st : StoreState) (activity : Activity) (n : ℕ) (free : Option (ℕ �
     subst (λ (k : ℕ). SearchRow activity (sight_in st place) k page (placed place deed)) is_id
         (lifted_search (given_sight meta (given_pages activity id page first) free) (sight_in st place) (shown next place) activity id page deed row),
   )
-
-  pub poster_layout : AsksPoster st activity n free → IsLayout meta
-  poster_layout asks = given_layout asks.layout
-
-  pub poster_made : AsksPoster st activity n free → FitsFile meta page
-  poster_made asks = given_made asks.page asks.live asks.made
-
-  pub poster_asked : AsksPoster st activity n free → MayBeAsked activity meta page first
-  poster_asked asks =
-      subst (λ (m : Meta). MayBeAsked activity m page first) (sym is_meta)
-      (subst (λ (o : Option LivePage). MayBeAsked activity st.meta page o) (sym other)
-      (subst (λ (q : LivePage). MayBeAsked activity st.meta q (other_page st activity)) (same_page asks.page asks.live) asks.asked))
 
   pub poster_free : AsksPoster st activity n free → MakesPage activity meta page first → FitsFree meta free
   poster_free asks makes =
@@ -139,22 +104,6 @@ module _ (st : StoreState) (activity : Activity) (n : ℕ) (id : ℕ) (page : Li
     (is_meta : meta ≡ st.meta) where
   pair_shown : (place : ℕ) → IsSeenIn (sight_in st place) (given_sight meta (pages_given activity id page first second) None)
   pair_shown place = record { meta = is_meta; pages = among_there (live_here st) (pages_given activity id page first second) (pair_there (live_here st) activity id page first second live other kept); next = no_number st }
-
-  one_page : (asked : LivePage) → live_here st n ≡ Some asked → asked ≡ page
-  one_page asked there = same_Some asked page (sym there ∙ (under_number st id n page is_id live))
-
-  pub merger_layout : AsksMerger st activity n → IsLayout meta
-  merger_layout asks = subst IsLayout (sym is_meta) asks.layout
-
-  pub merger_made : AsksMerger st activity n → FitsFile meta page
-  merger_made asks = subst (λ (m : Meta). FitsFile m page) (sym is_meta) (subst (FitsFile st.meta) (one_page asks.page asks.live) asks.made)
-
-  pub merger_asked : AsksMerger st activity n → MayAskToMerge activity meta page first second
-  merger_asked asks =
-      subst (λ (m : Meta). MayAskToMerge activity m page first second) (sym is_meta)
-      (subst (λ (o : Option LivePage). MayAskToMerge activity st.meta page o second) (sym other)
-      (subst (λ (o : Option LivePage). MayAskToMerge activity st.meta page (other_page st activity) o) (sym kept)
-      (subst (λ (q : LivePage). MayAskToMerge activity st.meta q (other_page st activity) (second_page st activity)) (one_page asks.page asks.live) asks.asked)))
 
   pub merger_said : (deed : Deed) → ((free : Option (ℕ × ℕ)) → ConsolidatorRow activity (given_sight meta (pages_given activity id page first second) free) id page deed) → (place : ℕ) → HasMergerRow st activity n place (placed place deed)
   merger_said deed row place = (

@@ -14,7 +14,6 @@ use Rattle.hb_activity.specs.declared.activities.Activity.{Activity}
 use Rattle.hb_activity.specs.declared.activities.Activity.TheVariants as at
 use Rattle.hb_activity.specs.Classes.{line_in_hand}
 use Rattle.hb_point.specs.SessionRows.{is_answered, next_line}
-use Rattle.hb_core.specs.KeptFits.{IsOfSession, LineFits}
 use Rattle.hb_core.specs.KeptMachine.{MachineKeeps}
 use Rattle.hb_core.specs.KeptSequence.{HasAnswer, awaited_number}
 use Rattle.hb_core.specs.Machines.{Machine}
@@ -95,13 +94,6 @@ come_to d c m place from line hand b shows kept low high there same before hand_
     by true tells is unanswered dealt = sym (ap not (unanswered (sym is ∙ tells.0 refl)))
     by false tells is unanswered (inl answer) = sym (ap not answer)
     by false tells is unanswered (inr in_hand) = absurd (false≢true (tells.1 (is ∙ in_hand)))
-
--- a line of the script is of a session
-pub of_session : (d : DiskModel) (c : RunningCore) (m : Machine) (place : ℕ) (line : Line) → ShowsMachine d c m → MachineKeeps m → place < length c.lines → line ≡ get_or c.lines place line
-    → IsOfSession line
-of_session d c m place line shows kept within is =
-    let fits : LineFits m.store.meta.k line = subst (LineFits m.store.meta.k) (ap (λ (l : List Line). get_or l place line) shows.lines ∙ sym is) (kept.attributes_fit.script place line (omega (arith, within, ap (λ (l : List Line). length l) shows.lines))) in
-    record { first = fits.first_session; last = fits.last_session }
 
 -- one line more is counted
 pub one_more : (m : Machine) (lines : List Line) (n : ℕ) (line : Line) (count one : ℕ) → n < length lines → line ≡ get_or lines n line → one ≡ cond (is_answered line.number m.answered) 0 1

@@ -7,7 +7,7 @@ use Rattle.hb_activity.specs.declared.dropping.DropWhy.TheVariants as drops
 use Rattle.hb_activity.specs.Deeds.{Deed}
 use Rattle.hb_disk.specs.Calls.{ReadsOnly}
 use Rattle.hb_disk.specs.Model.{DiskModel}
-use Rattle.hb_disk.proofs.Facts.FaultLaws.{ReadsOnly-as, ReadsOnly-neither, ReadsOnly-then}
+use Rattle.hb_disk.proofs.Facts.FaultLaws.{ReadsOnly-as, ReadsOnly-neither}
 use Rattle.hb_set.specs.declared.commands.Reply.TheVariants as replies
 use Rattle.hb_store.specs.declared.stops.StopWhy.{StopWhy}
 use Rattle.hb_store.specs.declared.stops.StopWhy.TheVariants as stops
@@ -33,10 +33,6 @@ row_well m actor outcome new does = by (saying_of (with_disk does.fetched m.file
     by : IsQuietRow does.deed ⊎ IsFullRow (with_disk does.fetched m.files m.clock m) (m.activity actor) does.deed → IsWell outcome
     by (inl quiet) = well_as outcome outcomes.Moved (does.performs.says ∙ ap outcome_of quiet.says) moved_well
     by (inr full) = well_as outcome (outcomes.Answered full.line.number replies.Full) (does.performs.says ∙ ap (λ (d : Deed). outcome_of d.says) full.deed_is) (answered_well full.line.number replies.Full full_reply)
-
--- Two calls that read and didn't fail, and what touches no disk afterwards.
-pub read_both : {F G H : Type 0} (d mid e : DiskModel) → (F → ⊥) → (G → ⊥) → (H → ⊥) → ReadsOnly F d mid → ReadsOnly G mid e → ReadsOnly H d e
-read_both d mid e f g h first second = ReadsOnly-neither d e g h (ReadsOnly-then d mid e f first second)
 
 -- want of memory is no read that failed
 pub memory_reads_not : IsReadHalt (GivesUp drops.NoMemory) → ⊥

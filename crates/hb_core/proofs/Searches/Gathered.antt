@@ -15,7 +15,8 @@ use Rattle.hb_core.specs.KeptFits.{IsBoxOf}
 use Rattle.hb_core.specs.KeptSearches.{HasFoundSoFar, IsAmong}
 use Rattle.hb_search.proofs.Facts.StaysApart.{stays_apart}
 use Rattle.hb_search.specs.SearchRows.{records_within}
-use Rattle.hb_search.specs.Searching.{Differ, IsGathering}
+use Rattle.hb_frag.specs.Rules.{Differ}
+use Rattle.hb_search.specs.Searching.{IsGathering}
 use Rattle.hb_lemmas.proofs.Pairs.{pairs_first, pairs_rest}
 
 -- ---- boxes of which no two share a point

@@ -1,18 +1,17 @@
 -- A leaf of records of a page in memory has exactly the records of the contents in its box.
-use Rattle.std.proofs.Common.{◌↔◌, ◌≡◌, ◌≢◌, ◌⊎◌, inl, inr, ℕ, List, [], ◌∷◌, refl, All, AllPairs, Contains, Some, None, sym, ap, ◌∙◌, subst}
+use Rattle.std.proofs.Common.{◌↔◌, ◌≡◌, ◌≢◌, ◌⊎◌, inl, inr, ℕ, List, [], ◌∷◌, refl, All, Contains, Some, None, sym, ap, ◌∙◌, subst}
 use Rattle.std.specs.FinMap as map
 use Rattle.std.proofs.lemmas.List.Elements.{All-cons, All-contains, All-nil}
-use Rattle.hb_space.proofs.Facts.PointOrder.{not_itself}
 use Rattle.hb_core.proofs.Files.FileOps.{ShowsFile}
 use Rattle.hb_core.proofs.Files.FitOps.{HeldArePoints, live_good}
 use Rattle.hb_core.proofs.Machines.BoxesAhead.{leaf_box}
 use Rattle.hb_core.proofs.Memory.KeptPages.{KeepsPages}
 use Rattle.hb_core.proofs.Searches.Gathered.{IsLeafOf}
 use Rattle.hb_core.specs.KeptSearches.{IsAmong}
-use Rattle.hb_search.specs.Searching.{Differ}
+use Rattle.hb_frag.proofs.Facts.OrderedLeaves.{rising_differ}
 use Rattle.hb_frag.proofs.Facts.Tiles.{first_tells}
 use Rattle.hb_frag.specs.Leaves.{Placed, leaf_at, leaves_of}
-use Rattle.hb_frag.specs.Rules.{IsInOrder, Precedes}
+use Rattle.hb_frag.specs.Rules.{IsInOrder}
 use Rattle.hb_frag.specs.declared.leaves.Leaf.TheVariants.{Records}
 use Rattle.hb_frag.specs.declared.pages.LivePage.{LivePage}
 use Rattle.hb_frag.specs.declared.pages.Page.TheVariants.{Live}
@@ -39,10 +38,6 @@ of_point (x ∷ xs) p = elim (known_list x.key p) [
   ]
 ]
 
--- records whose points rise are of different points
-rise_apart : (records : List Record) → AllPairs Precedes records → AllPairs Differ records
-rise_apart records rising i j d low high same = not_itself _ _ same (rising i j d low high)
-
 -- a leaf of a page that is good
 pub leaf_of : (meta : Meta) (page : LivePage) (p : List ℕ) (records : List Record) (area : Area) → IsGoodPage meta (Live page) → leaf_at page p ≡ Some (record { leaf = Records records; area = area }) → IsLeafOf meta.k records area
 leaf_of meta page p records area good there =
@@ -51,7 +46,7 @@ leaf_of meta page p records area good there =
     record {
       box = (leaf_box meta page p placed good there).0;
       inside = λ r has. All-contains (λ (r : Record). Holds area r.key) records r in_order.inside has;
-      once = rise_apart records in_order.rising;
+      once = rising_differ records in_order.rising;
     }
 
 module _ (points : HeldArePoints) (standing : StandingIsContents) (lacking : LackIsContents) (fetched : StoreState) (s : FileState) (keeps : KeepsPages fetched) (file : ShowsFile fetched s)

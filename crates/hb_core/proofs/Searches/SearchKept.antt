@@ -48,7 +48,7 @@ use Rattle.hb_core.specs.KeptFits.{CommandFits, IsBoxOf, LineFits, boxes_left}
 use Rattle.hb_core.specs.KeptMachine.{MachineKeeps}
 use Rattle.hb_core.specs.KeptSearches.{HasFoundSoFar, SearchesAreExact}
 use Rattle.hb_core.specs.Keeps.{HasSoundFile}
-use Rattle.hb_core.specs.Machines.{Files, Machine, current_file, if_some, live_here, sight, with_disk}
+use Rattle.hb_core.specs.Machines.{Files, Machine, current_file, live_here, sight, with_disk}
 use Rattle.hb_core.specs.OrderLaws.{SearchesAreRight, SearchesStayExact}
 use Rattle.hb_core.specs.Performing.{Performs}
 use Rattle.hb_core.specs.Rows.{Row}
@@ -56,6 +56,7 @@ use Rattle.hb_core.specs.Steps.{StepsTo}
 use Rattle.hb_core.specs.declared.outcomes.Outcome.{Outcome}
 use Rattle.hb_lemmas.proofs.Options.{not_none}
 use Rattle.hb_core.proofs.Orders.LinesFit.{took_job, took_merging}
+use Rattle.std.specs.Option.{option_to_list}
 
 -- ---- a search that begins, and one whose box's points stay as they are
 
@@ -236,9 +237,9 @@ module _ (points : HeldArePoints) (standing : StandingIsContents) (lacking : Lac
         absurd (omega (arith, lengths, longer))
 
     joins_not : {fetched : StoreState} (deed : Deed) → Performs m fetched actor deed outcome new → deed.joins ≡ None → IsRight
-    joins_not deed performs none = stays_not (performs.order ∙ ap (λ (o : Option Entry). m.order ++ if_some o) none ∙ append-nil m.order)
+    joins_not deed performs none = stays_not (performs.order ∙ ap (λ (o : Option Entry). m.order ++ option_to_list o) none ∙ append-nil m.order)
 
-    joins_it : (joins : Option Entry) → new.order ≡ m.order ++ if_some joins → (joins ≡ Some entry) ⊎ IsRight
+    joins_it : (joins : Option Entry) → new.order ≡ m.order ++ option_to_list joins → (joins ≡ Some entry) ⊎ IsRight
     joins_it None order = inr (stays_not (order ∙ append-nil m.order))
     joins_it (Some one) order = inl (ap Some (same_from_push m.order m.order one entry (sym order ∙ grown)).1)
 

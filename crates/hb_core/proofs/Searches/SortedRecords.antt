@@ -3,11 +3,10 @@ use Rattle.std.proofs.Common.{◌≡◌, ◌↔◌, inl, inr, ℕ, zero, ◌&&�
 use Rattle.std.specs.FinMap as finite
 use Rattle.std.specs.FinMap.Entries.{below_all, find, is_sorted}
 use Rattle.std.specs.List.Sorted.{IsPermutation}
-use Rattle.std.specs.Ordering.{eq_by_cmp, is_eq, is_lt}
+use Rattle.std.specs.Ordering.{eq_by_cmp, is_lt}
 use Rattle.std.specs.declared.cmp.Ordering.{Ordering}
 use Rattle.std.specs.declared.cmp.Ordering.TheVariants.{Less, Equal, Greater}
 use Rattle.std.proofs.lemmas.Bool.{cases_Bool}
-use Rattle.std.proofs.lemmas.Cmp.{nat_list_cmp_total, tied_itself}
 use Rattle.std.proofs.lemmas.List.Elements.{All-cons, All-contains, All-nil, filter_passes, All-filter}
 use Rattle.std.proofs.lemmas.List.Sorted.{Contains-permutation, IsPermutation-sym}
 use Rattle.hb_frag.proofs.Facts.RisingRecords.{Rise, ahead, in_front, rises, same_rising}
@@ -20,6 +19,8 @@ use Rattle.hb_space.specs.Boxes.{Area, Holds, IsArea, holds}
 use Rattle.hb_space.specs.Points.{point_cmp}
 use Rattle.hb_space.specs.declared.records.Record.{Record}
 use Rattle.hb_core.specs.KeptSearches.{IsAmong}
+use Rattle.hb_lemmas.proofs.Orderings.{alike}
+use Rattle.std.proofs.lemmas.Cmp.{nat_list_cmp_total}
 
 -- ---- what a filter keeps
 
@@ -67,15 +68,12 @@ found_member (e ∷ es) r found = elim (cases_Bool (eq_by_cmp point_cmp r.key e.
       later_member (record_of e) (map record_of es) r (found_member es r (subst (λ (b : Bool). cond b (Some e.1) (find point_cmp r.key es) ≡ Some r.body) off found))
 ]
 
-alike_itself : (p q : List ℕ) → p ≡ q → eq_by_cmp point_cmp p q ≡ true
-alike_itself p q same = subst (λ (x : List ℕ). eq_by_cmp point_cmp p x ≡ true) same (ap is_eq (tied_itself nat_list_cmp_total p))
-
 member_found : (es : List (List ℕ × List ℕ)) (r : Record) → Rise (map record_of es) → Contains (map record_of es) r → find point_cmp r.key es ≡ Some r.body
 member_found [] r up there = absurd (no_member r there)
 member_found (e ∷ es) r up there = elim (member_cases (record_of e) (map record_of es) r there) [
   | inl same ↦
-      let alike = alike_itself r.key e.0 (ap (λ (s : Record). s.key) (sym same)) in
-      ap (λ (b : Bool). cond b (Some e.1) (find point_cmp r.key es)) alike ∙ ap (λ (s : Record). Some s.body) same
+      let tied = alike nat_list_cmp_total r.key e.0 (ap (λ (s : Record). s.key) (sym same)) in
+      ap (λ (b : Bool). cond b (Some e.1) (find point_cmp r.key es)) tied ∙ ap (λ (s : Record). Some s.body) same
   | inr later ↦ elim (cases_Bool (eq_by_cmp point_cmp r.key e.0)) [
     | inl here ↦ absurd (not_itself e.0 r.key (sym (same_point r.key e.0 here)) (All-contains (Precedes (record_of e)) (map record_of es) r (ahead (record_of e) (map record_of es) up) later))
     | inr off ↦ ap (λ (b : Bool). cond b (Some e.1) (find point_cmp r.key es)) off ∙ member_found es r up.1 later

@@ -20,13 +20,14 @@ use Rattle.hb_core.specs.Asking.{looked_live, wanted_by}
 use Rattle.hb_core.specs.Fetching.{Brings, IsWantedPage, MustStay}
 use Rattle.hb_core.specs.Forcing.{FailsToWrite}
 use Rattle.hb_core.specs.GivingUp.{drops_job, gives_up_hand, reply_for}
-use Rattle.hb_core.specs.Machines.{Machine, if_some, sight, with_disk}
+use Rattle.hb_core.specs.Machines.{Machine, sight, with_disk}
 use Rattle.hb_core.specs.OutcomeLaws.{AsideChangesNoFile, ChangesNoFile, RefusesSearch, SaysAside}
 use Rattle.hb_core.specs.Performing.{ChangesQueue, MayDo, Performs, files_after, outcome_of}
 use Rattle.hb_core.specs.Rows.{Row, RowAlone}
 use Rattle.hb_set.specs.Order.{Entry}
 use Rattle.hb_store.specs.States.{StoreState, in_memory}
 use Rattle.hb_core.proofs.Table.NextHands.{no_line, no_job}
+use Rattle.std.specs.Option.{option_to_list}
 
 -- A deed that does nothing to the file, the queue and the order.
 record IsAside (m : Machine) (actor : ℕ) (deed : Deed) : Type 0 where
@@ -130,7 +131,7 @@ module _ (m : Machine) (actor : ℕ) (outcome : Outcome) (new : Machine) where
         says = subst (SaysAside m actor) (sym performs.says) aside.says;
         lines = performs.lines;
         jobs = jobs_stay deed aside performs.jobs;
-        order = performs.order ∙ ap (λ (o : Option Entry). m.order ++ if_some o) aside.joins ∙ append-nil m.order;
+        order = performs.order ∙ ap (λ (o : Option Entry). m.order ++ option_to_list o) aside.joins ∙ append-nil m.order;
         files = performs.files ∙ ap (λ (o : Option Op). files_after o m.files) aside.op;
         meta = ap (λ (st : StoreState). st.meta) store ∙ keeps.meta;
         log = ap (λ (st : StoreState). st.log) store ∙ keeps.log;

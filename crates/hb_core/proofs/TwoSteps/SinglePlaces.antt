@@ -1,6 +1,5 @@
 -- A line stands in a legal order once, and with a reply of the machine.
 use Rattle.std.proofs.Common.{◌≡◌, ℕ, zero, suc, List, [], ◌∷◌, ◌++◌, slice_get, Option, Some, None, refl, sym, ap, ◌∙◌, subst}
-use Rattle.std.specs.List.{AllByRecursion}
 use Rattle.std.specs.FinMap as finite
 use Rattle.hb_set.specs.declared.commands.Command.{Command}
 use Rattle.hb_set.specs.declared.commands.Command.TheVariants.{Insert, Delete, Lookup, Search}
@@ -10,13 +9,8 @@ use Rattle.hb_core.specs.KeptOrder.{StandsInOrder, StandsOutside}
 use Rattle.hb_core.specs.Machines.{Machine}
 use Rattle.hb_set.specs.Machine.{RecordSet, found_or_missing, if_there, reply_of, set_after}
 use Rattle.hb_set.specs.Order.{AreReplies, Entry, IsLegalOrder, KeepsSessions, MayPrecede}
-use Rattle.hb_lemmas.proofs.Lists.{get-longer}
-
--- what holds of each holds at a place
-at_place : {X : Type 0} (P : X → Type 0) (xs : List X) (i : ℕ) (x : X) → AllByRecursion P xs → slice_get xs i ≡ Some x → P x
-at_place P [] i x all is = cc
-at_place P (y ∷ xs) zero x all is = let same : y ≡ x = cc in subst P same all.0
-at_place P (y ∷ xs) (suc i) x all is = at_place P xs i x all.1 is
+use Rattle.hb_lemmas.proofs.Lists.{get-longer, at_place}
+use Rattle.std.proofs.lemmas.List.Elements.{All-from_recursion}
 
 -- no line stands twice
 same_place : (es : List Entry) (i j : ℕ) (a b : Entry) → KeepsSessions es → slice_get es i ≡ Some a → slice_get es j ≡ Some b → a.line.number ≡ b.line.number → i ≡ j
@@ -24,10 +18,10 @@ same_place [] i j a b keeps first second same = cc
 same_place (e ∷ es) zero zero a b keeps first second same = refl
 same_place (e ∷ es) zero (suc j) a b keeps first second same =
     let is : e ≡ a = cc in
-    absurd ((at_place (MayPrecede e) es j b keeps.0 second).other_line (ap (λ (x : Entry). x.line.number) is ∙ same))
+    absurd ((at_place (MayPrecede e) es j b (All-from_recursion (MayPrecede e) es keeps.0) second).other_line (ap (λ (x : Entry). x.line.number) is ∙ same))
 same_place (e ∷ es) (suc i) zero a b keeps first second same =
     let is : e ≡ b = cc in
-    absurd ((at_place (MayPrecede e) es i a keeps.0 first).other_line (ap (λ (x : Entry). x.line.number) is ∙ sym same))
+    absurd ((at_place (MayPrecede e) es i a (All-from_recursion (MayPrecede e) es keeps.0) first).other_line (ap (λ (x : Entry). x.line.number) is ∙ sym same))
 same_place (e ∷ es) (suc i) (suc j) a b keeps first second same = ap suc (same_place es i j a b keeps.1 first second same)
 
 -- the machine answers no reply that stands outside of the order

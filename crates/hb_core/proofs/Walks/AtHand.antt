@@ -1,5 +1,5 @@
 -- The page that a step latches comes later than those that its actor holds, over every disk. So it is none of them.
-use Rattle.std.proofs.Common.{◌≡◌, ◌≢◌, ◌⊎◌, inl, inr, ℕ, zero, suc, ◌-◌, ◌<◌, Bool, true, cond, List, [], ◌∷◌, map, Option, Some, None, IfSome, IsSome, IsTrue, refl, sym, ap, ◌∙◌, subst, arith}
+use Rattle.std.proofs.Common.{◌≡◌, ◌≢◌, ◌⊎◌, inl, inr, ℕ, ◌-◌, ◌<◌, Bool, cond, List, [], ◌∷◌, Option, Some, None, IfSome, IsSome, IsTrue, refl, sym, ap, ◌∙◌, subst, arith}
 use Rattle.std.specs.List.{Contains, slice_get}
 use Rattle.std.specs.Option.{option_and_then, option_map}
 use Rattle.std.proofs.lemmas.Bool.{ne_eqb}
@@ -23,15 +23,15 @@ use Rattle.hb_activity.specs.Waiting.{IsLater}
 use Rattle.hb_activity.specs.Walks.{goal_of, job_mode, session_mode, walk_held}
 use Rattle.hb_activity.specs.Wanting.{child_of, in_mode, named_child, named_page, walk_next, wanted_of, wanted_page}
 use Rattle.hb_consol.specs.ConsolidatorRows.{names_child}
-use Rattle.hb_core.proofs.Files.AskedPages.{first_among, first_sibling_among, leaf_of_place}
+use Rattle.hb_core.proofs.Files.AskedPages.{first_among, first_box_among, leaf_of_place}
 use Rattle.hb_core.proofs.Memory.BroughtPages.{own_there}
 use Rattle.hb_core.proofs.Latches.LatchesStay.{walk_latched}
 use Rattle.hb_core.proofs.Table.MergerMoves.{of_page}
 use Rattle.hb_core.proofs.Walks.MergesKept.{above_records, place_latched, known_at}
-use Rattle.hb_core.proofs.Walks.Volumes.{sibling_fewer}
+use Rattle.hb_ops.proofs.Facts.Volumes.{sibling_fewer}
 use Rattle.hb_core.proofs.Walks.WalksKept.{IsAtParent, parent_latched}
 use Rattle.hb_core.specs.AllowedLaws.{AnyPage}
-use Rattle.hb_core.specs.Asking.{AskedBox, HasAskedBox, asked_box, box_at, box_by_leaf, box_of_place, box_of_sibling, looked_live, wanted_by}
+use Rattle.hb_core.specs.Asking.{AskedBox, HasAskedBox, asked_box, box_at, box_by_leaf, box_of_place, box_of_sibling, looked_live, this_box, wanted_by}
 use Rattle.hb_core.specs.Fetching.{Brings}
 use Rattle.hb_core.specs.KeptMachine.{MachineKeeps}
 use Rattle.hb_core.specs.KeptMerges.{AtParent, PairHeld, merging_at}
@@ -40,7 +40,6 @@ use Rattle.hb_core.specs.Machines.{Machine, live_here, with_disk}
 use Rattle.hb_core.specs.Performing.{latches_held, mode_among}
 use Rattle.hb_core.specs.Rows.{IsAtHand}
 use Rattle.hb_core.specs.WaitingLaws.{Promotes}
-use Rattle.hb_frag.proofs.Facts.Tiles.{leaves_placed}
 use Rattle.hb_frag.specs.Leaves.{Placed, first_named, leaf_at, leaves, leaves_of, siblings_of}
 use Rattle.hb_frag.specs.Rules.{BelongsAt}
 use Rattle.hb_space.specs.Actors.{IsActor}
@@ -51,12 +50,6 @@ use Rattle.hb_store.specs.States.{IsGoodPage, StoreState, in_memory}
 use Rattle.hb_ops.proofs.Facts.PageNumberLaws.{live_so}
 
 -- ---- a page that is found of the level and the box by which another one names it
-
--- a leaf's place has its box
-placed_at : (xs : List Placed) (place : ℕ) (leaf : Leaf) → slice_get (map (λ (x : Placed). x.leaf) xs) place ≡ Some leaf → (l : Placed) × (slice_get xs place ≡ Some l)
-placed_at [] place leaf is = cc
-placed_at (x ∷ xs) zero leaf is = (x, refl)
-placed_at (x ∷ xs) (suc place) leaf is = placed_at xs place leaf is
 
 module _ (meta : Meta) (held : LivePage) (good : IsGoodPage meta (Live held)) (page : LivePage) where
   abbrev HasBox : Option AskedBox → Type 0
@@ -115,8 +108,8 @@ module _ (meta : Meta) (held : LivePage) (good : IsGoodPage meta (Live held)) (p
   -- the page to go, by the leaf that is tried, and by the first leaf to it
   tried_found : (name place : ℕ) (then : Option LivePage) → then ≡ Some held → slice_get (leaves held.frag) place ≡ Some (Sibling name) → page.level ≡ held.level → HasBox (box_of_place then place) → IsLater held page
   tried_found name place then is there on box =
-      let at_place = placed_at (leaves_of held.frag held.area) place (Sibling name) (ap (λ (ls : List Leaf). slice_get ls place) (leaves_placed held.frag held.area) ∙ there) in
-      let leaf : Sibling name ≡ at_place.0.leaf = leaf_of_place held.frag held.area place (Sibling name) at_place.0 there at_place.1 in
+      let at_place = leaf_of_place held.frag held.area place (Sibling name) there in
+      let leaf : Sibling name ≡ at_place.0.leaf = sym at_place.2 in
       let among : Contains (leaves_of held.frag held.area) (placed (Sibling name) at_place.0.area) = subst (λ (x : Leaf). Contains (leaves_of held.frag held.area) (placed x at_place.0.area)) (sym leaf) (place_member (leaves_of held.frag held.area) place at_place.0 at_place.1) in
       let found : HasBox (option_and_then box_by_leaf (Some at_place.0)) = subst (λ (o : Option Placed). HasBox (option_and_then box_by_leaf o)) at_place.1 (subst (λ (o : Option LivePage). HasBox (box_of_place o place)) is box) in
       let exact : HasBox (box_by_leaf (placed (Sibling name) at_place.0.area)) = subst (λ (x : Leaf). HasBox (box_by_leaf (placed x at_place.0.area))) (sym leaf) found in
@@ -125,9 +118,9 @@ module _ (meta : Meta) (held : LivePage) (good : IsGoodPage meta (Live held)) (p
   given_found : (name : ℕ) (then : Option LivePage) → then ≡ Some held → IsSome (first_named name (siblings_of held)) → page.level ≡ held.level → HasBox (box_of_sibling then name) → IsLater held page
   given_found name then is gave on box = by (first_named name (siblings_of held)) refl gave (subst (λ (o : Option LivePage). HasBox (box_of_sibling o name)) is box)
     where
-      by : (o : Option Area) → first_named name (siblings_of held) ≡ o → IsSome o → HasBox (option_map (λ (area : Area). record { area = area; exact = true }) o) → IsLater held page
+      by : (o : Option Area) → first_named name (siblings_of held) ≡ o → IsSome o → HasBox (option_map this_box o) → IsLater held page
       by None found some box = cc
-      by (Some area) found some box = sibling_found name area (first_sibling_among name (siblings_of held) area found) on box
+      by (Some area) found some box = sibling_found name area (first_box_among name (siblings_of held) area found) on box
 
 -- ---- the latches of an actor
 

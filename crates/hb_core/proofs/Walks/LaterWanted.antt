@@ -21,8 +21,8 @@ use Rattle.hb_activity.specs.Waiting.{IsLater}
 use Rattle.hb_activity.specs.Walks.{goal_of, job_mode, session_mode, walk_held}
 use Rattle.hb_activity.specs.Wanting.{child_of, in_mode, named_child, named_page, walk_next, wanted_of, wanted_page}
 use Rattle.hb_consol.specs.ConsolidatorRows.{names_child}
-use Rattle.hb_core.proofs.Files.AskedPages.{first_among, first_sibling_among, named_with_box}
-use Rattle.hb_core.proofs.Walks.Volumes.{sibling_fewer}
+use Rattle.hb_core.proofs.Files.AskedPages.{first_among, first_box_among, named_with_box}
+use Rattle.hb_ops.proofs.Facts.Volumes.{sibling_fewer}
 use Rattle.hb_core.specs.Asking.{looked_live}
 use Rattle.hb_core.specs.Keeps.{HasSoundFile, LatchesFit, WalksInSpace}
 use Rattle.hb_core.specs.KeptMerges.{AtParent, NamesKnown, PairHeld, merging_at}
@@ -96,7 +96,7 @@ module _ (s : FileState) (sound : IsSound s) (id : ℕ) (page : LivePage) (live 
     where
       by : (o : Option Area) → first_named name (siblings_of page) ≡ o → IsSome o → ComesLater s id other
       by None none some = cc
-      by (Some area) there some = sibling_after name other area (first_sibling_among name (siblings_of page) area there) is
+      by (Some area) there some = sibling_after name other area (first_box_among name (siblings_of page) area there) is
 
 -- ---- of the latches of an activity
 

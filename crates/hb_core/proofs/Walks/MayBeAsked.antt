@@ -1,9 +1,8 @@
 -- The deciders may be asked at the page that a kept machine's step has at hand.
 use Rattle.std.proofs.Common.{◌≡◌, ◌≢◌, ◌⊎◌, inl, inr, ℕ, ◌≤◌, List, [], ◌∷◌, length, Option, Some, None, MatchOption, IfSome, refl, sym, ap, ◌∙◌, subst, arith}
-use Rattle.std.specs.List.{All, slice_get}
-use Rattle.std.specs.Option.{option_and_then, option_map}
+use Rattle.std.specs.List.{All}
+use Rattle.std.specs.Option.{option_and_then}
 use Rattle.std.proofs.lemmas.Option.{same_Some}
-use Rattle.std.proofs.lemmas.List.Elements.{All-contains}
 use Rattle.hb_space.specs.Boxes.{Area, Holds, whole_area}
 use Rattle.hb_space.specs.Points.{IsPoint}
 use Rattle.hb_space.specs.declared.records.Record.{Record}
@@ -51,8 +50,6 @@ use Rattle.hb_core.specs.KeptFits.{CommandFits, IsBoxOf, JobFits, LineFits, Stan
 use Rattle.hb_core.specs.KeptMachine.{MachineKeeps}
 use Rattle.hb_core.specs.Machines.{Machine, live_here}
 use Rattle.hb_core.specs.Performing.{latches_held, mode_among}
-use Rattle.hb_lemmas.proofs.Options.{some_of_map}
-use Rattle.hb_lemmas.proofs.Lists.{place_member}
 use Rattle.hb_core.proofs.Machines.AddedJobs.{goal_fits}
 use Rattle.hb_core.proofs.Memory.BroughtPages.{own_there}
 use Rattle.hb_lemmas.proofs.Booleans.{at_itself}
@@ -62,13 +59,6 @@ pub pages_at_hand_fit : PagesAtHandFit
 pages_at_hand_fit m fetched id page keeps brings live = (keeps.meta_within_limits.layout, (fetched_good m AnyPage fetched keeps.pages_of_file brings id page live).1)
 
 -- ---- how many attributes the point of a walk has
-
-box_of_goal : (k : ℕ) (rest : List Area) (place : ℕ) (p : List ℕ) → All (IsBoxOf k) rest → option_map (λ (a : Area). a.lo) (slice_get rest place) ≡ Some p → length p ≡ k
-box_of_goal k rest place p boxes is =
-    let one = some_of_map (λ (a : Area). a.lo) (slice_get rest place) p is in
-    let same : one.0.lo ≡ p = same_Some one.0.lo p (sym (ap (option_map (λ (a : Area). a.lo)) one.1) ∙ is) in
-    let fits : IsBoxOf k one.0 = All-contains (IsBoxOf k) rest one.0 boxes (place_member rest place one.0 one.1) in
-    sym (ap (λ (q : List ℕ). length q) same) ∙ fits.1
 
 point_has : (k : ℕ) (activity : Activity) (p : List ℕ) → IfSome (line_in_hand activity) (LineFits k) → IfSome (job_in_work activity) (JobFits k) → All (IsBoxOf k) (boxes_left activity) → walk_point activity ≡ Some p → length p ≡ k
 point_has k (at.SessionWalk line held rest found) p in_hand in_work boxes is = goal_fits k line.command rest p in_hand.command boxes is

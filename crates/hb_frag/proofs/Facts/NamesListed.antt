@@ -8,7 +8,9 @@ use Rattle.std.proofs.lemmas.Bool.{cases_eq, ne_eqb}
 use Rattle.hb_space.specs.Boxes.{Area}
 use Rattle.hb_frag.specs.declared.leaves.Leaf.{Leaf}
 use Rattle.hb_frag.specs.declared.leaves.Leaf.TheVariants.{Records, Child, Sibling}
-use Rattle.hb_frag.specs.Leaves.{Placed, child_names, firsts, with_name, with_names, first_named, siblings}
+use Rattle.hb_frag.specs.Leaves.{Placed, child_names, firsts, with_name, with_names, first_named, siblings, children}
+use Rattle.std.proofs.lemmas.List.Sums.{fold-append}
+use Rattle.std.proofs.lemmas.Grind.{flat_map-append}
 
 -- what isn't in the first of two lists is in both together where it is in the second
 pub in_second : (xs ys : List Leaf) (l : Leaf) (a b : Bool) → (IsTrue a ↔ Contains xs l) → a ≡ false → (IsTrue b ↔ Contains ys l) → IsTrue b ↔ Contains (xs ++ ys) l
@@ -24,12 +26,13 @@ child_names-append (Child page ∷ xs) ys = ap (λ names. page ∷ names) (child
 child_names-append (Sibling page ∷ xs) ys = child_names-append xs ys
 
 pub with_names-append : (seen xs ys : List ℕ) → with_names seen (xs ++ ys) ≡ with_names (with_names seen xs) ys
-with_names-append seen [] ys = refl
-with_names-append seen (x ∷ xs) ys = with_names-append (with_name seen x) xs ys
+with_names-append seen xs ys = fold-append with_name seen xs ys
 
 pub siblings-append : (xs ys : List Placed) → siblings (xs ++ ys) ≡ siblings xs ++ siblings ys
-siblings-append [] ys = refl
-siblings-append (x ∷ xs) ys = rw (siblings-append xs ys) (sym (append_assoc _ (siblings xs) (siblings ys)))
+siblings-append xs ys = flat_map-append _ xs ys
+
+pub children-append : (xs ys : List Placed) → children (xs ++ ys) ≡ children xs ++ children ys
+children-append xs ys = flat_map-append _ xs ys
 
 -- the first of two lists' boxes with a name
 pub named_in_front : (name : ℕ) (xs ys : List (ℕ × Area)) (a : Area) → first_named name xs ≡ Some a → first_named name (xs ++ ys) ≡ Some a

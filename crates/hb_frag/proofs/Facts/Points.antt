@@ -1,24 +1,24 @@
 -- The leaf at a point, and the way to it.
-use Rattle.std.proofs.Common.{◌≡◌, ℕ, ◌≤◌, inl, inr, List, [], ◌∷◌, ◌++◌, length, get_or, Some, None, refl, sym, ◌∙◌, arith}
+use Rattle.std.proofs.Common.{◌≡◌, ℕ, ◌≤◌, inl, inr, List, ◌++◌, length, get_or, Some, None, refl, sym, ◌∙◌, Option, ap}
 use Rattle.std.proofs.lemmas.Bool.{cases_lt}
-use Rattle.hb_space.specs.Boxes.{Area, IsArea, Holds, side_below, side_from}
-use Rattle.hb_space.proofs.Facts.Boxes.{Holds-side_below, Holds-side_from}
+use Rattle.hb_space.specs.Boxes.{Area, IsArea, Holds, side_below, side_from, holds}
+use Rattle.hb_space.proofs.Facts.Boxes.{Holds-side_below, Holds-side_from, test-from_Holds}
 use Rattle.hb_frag.specs.declared.leaves.Leaf.{Leaf}
 use Rattle.hb_frag.specs.declared.paths.Side.{Side}
 use Rattle.hb_frag.specs.Trees.{Tree, Tip, Cut}
 use Rattle.hb_frag.specs.Leaves.{Placed, IsWellCut, first_at, leaves_of, with_leaf_at}
 use Rattle.hb_frag.specs.Paths.{part_at, with_part, way_to}
 use Rattle.hb_frag.specs.Laws.{LeadsTo}
-use Rattle.hb_frag.proofs.Facts.Sides.{held_test, failed_test, IsArea-side_below, IsArea-side_from, same-side_from, not_from, not_below, outside_below, outside_from, is_below, isnt_below}
+use Rattle.hb_frag.proofs.Facts.Sides.{failed_test, IsArea-side_below, IsArea-side_from, same-side_from, not_from, not_below, outside_below, outside_from, is_below, isnt_below}
+use Rattle.std.proofs.lemmas.List.Folds.{find-append}
+use Rattle.std.specs.Option.{option_or}
 
 -- the first of two lists' leaves at a point
 pub first_in_front : (p : List ℕ) (xs ys : List Placed) (w : Placed) → first_at p xs ≡ Some w → first_at p (xs ++ ys) ≡ Some w
-first_in_front p [] ys w h = absurd (cc)
-first_in_front p (x ∷ xs) ys w h = grind (arith, first_in_front p xs ys w)
+first_in_front p xs ys w h = find-append (λ (l : Placed). holds l.area p) xs ys ∙ ap (λ (o : Option Placed). option_or o (first_at p ys)) h
 
 pub first_behind : (p : List ℕ) (xs ys : List Placed) → first_at p xs ≡ None → first_at p (xs ++ ys) ≡ first_at p ys
-first_behind p [] ys h = refl
-first_behind p (x ∷ xs) ys h = grind (arith, first_behind p xs ys)
+first_behind p xs ys h = find-append (λ (l : Placed). holds l.area p) xs ys ∙ ap (λ (o : Option Placed). option_or o (first_at p ys)) h
 
 -- a box that doesn't hold the point has no leaf there
 pub none_outside : (t : Tree) (area : Area) (p : List ℕ) → IsArea area → IsWellCut t area → length p ≡ length area.lo → (Holds area p → ⊥) → first_at p (leaves_of t area) ≡ None
@@ -47,7 +47,7 @@ going_right axis value left right area p h cut e from =
 -- where the search ends
 pub way_ends : (t : Tree) (area : Area) (p : List ℕ) → IsArea area → IsWellCut t area → Holds area p → (w : Placed) × LeadsTo p t area w
 way_ends (Tip leaf) area p h cut held =
-    let e = held_test area p h held in
+    let e = test-from_Holds area p h held in
     (record { leaf = leaf; area = area }, record { first = rw e; part = refl; held = held; changed = λ change. rw e })
 way_ends (Cut axis value left right) area p h cut held =
     elim (cases_lt (get_or p axis 0) value) [

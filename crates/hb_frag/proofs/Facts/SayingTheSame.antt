@@ -9,7 +9,7 @@ use Rattle.std.proofs.lemmas.List.Elements.{All-append, All-contains, Contains-a
 use Rattle.std.proofs.lemmas.List.Sorted.{IsPermutation-refl, IsPermutation-trans, IsPermutation-append, Contains-permutation, length_permutation}
 use Rattle.hb_space.specs.Boxes.{Area, IsArea, Holds, side_below, side_from}
 use Rattle.hb_space.specs.declared.records.Record.{Record}
-use Rattle.hb_space.proofs.Facts.Boxes.{Holds-side_below, Holds-side_from}
+use Rattle.hb_space.proofs.Facts.Boxes.{Holds-side_below, Holds-side_from, test-from_Holds}
 use Rattle.hb_frag.specs.declared.leaves.Leaf.{Leaf}
 use Rattle.hb_frag.specs.declared.leaves.Leaf.TheVariants.{Records, Child, Sibling}
 use Rattle.hb_frag.specs.Trees.{Tree, Tip, Cut}
@@ -21,7 +21,7 @@ use Rattle.hb_frag.proofs.Facts.NamesListed.{siblings-append}
 use Rattle.hb_frag.proofs.Facts.Parts.{weight_cut}
 use Rattle.hb_frag.proofs.Facts.Points.{going_left, going_right, way_ends}
 use Rattle.hb_frag.proofs.Facts.PointOrder.{order_permutes}
-use Rattle.hb_frag.proofs.Facts.Sides.{held_test, IsArea-side_below, IsArea-side_from}
+use Rattle.hb_frag.proofs.Facts.Sides.{IsArea-side_below, IsArea-side_from}
 use Rattle.hb_frag.proofs.Normals.{joined_by_cases}
 use Rattle.hb_frag.proofs.Facts.OrderedLeaves.{order_of_both}
 use Rattle.hb_lemmas.proofs.Lists.{only_one, All-alone, All-front, All-behind}
@@ -151,15 +151,15 @@ module _ (axis value : ℕ) (x y z : Leaf) (left : KeepsLeaf x z) (right : Keeps
   joined_point : (a : Area) (p : List ℕ) → IsArea a → IsWellCut (Cut axis value (Tip x) (Tip y)) a → Holds a p → KeepsPoint p (leaves_of (Cut axis value (Tip x) (Tip y)) a) (leaves_of (Tip z) a)
   joined_point a p h cut held =
       let whole = way_ends (Tip z) a p h tt held in
-      let here : first_at p (leaves_of (Tip z) a) ≡ Some (record { leaf = z; area = a }) = rw (held_test a p h held) in
+      let here : first_at p (leaves_of (Tip z) a) ≡ Some (record { leaf = z; area = a }) = rw (test-from_Holds a p h held) in
       elim (cases_lt (get_or p axis 0) value) [
         | inl low ↦
             let inside = (Holds-side_below a axis value p h cut.0).1 (held, low) in
-            let w : first_at p (leaves_of (Tip x) (side_below a axis value)) ≡ Some (record { leaf = x; area = side_below a axis value }) = rw (held_test (side_below a axis value) p (IsArea-side_below a axis value h cut.0) inside) in
+            let w : first_at p (leaves_of (Tip x) (side_below a axis value)) ≡ Some (record { leaf = x; area = side_below a axis value }) = rw (test-from_Holds (side_below a axis value) p (IsArea-side_below a axis value h cut.0) inside) in
             record { before = record { leaf = x; area = side_below a axis value }; after = record { leaf = z; area = a }; old_leaf = going_left axis value (Tip x) (Tip y) a p (record { leaf = x; area = side_below a axis value }) w; new_leaf = here; kept = left }
         | inr high ↦
             let inside = (Holds-side_from a axis value p cut.0).1 (held, high) in
-            let w : first_at p (leaves_of (Tip y) (side_from a axis value)) ≡ Some (record { leaf = y; area = side_from a axis value }) = rw (held_test (side_from a axis value) p (IsArea-side_from a axis value h cut.0) inside) in
+            let w : first_at p (leaves_of (Tip y) (side_from a axis value)) ≡ Some (record { leaf = y; area = side_from a axis value }) = rw (test-from_Holds (side_from a axis value) p (IsArea-side_from a axis value h cut.0) inside) in
             record { before = record { leaf = y; area = side_from a axis value }; after = record { leaf = z; area = a }; old_leaf = going_right axis value (Tip x) (Tip y) a p h cut held.same high ∙ w; new_leaf = here; kept = right }
       ]
 

@@ -4,12 +4,10 @@ use Rattle.std.proofs.lemmas.List.{length-set}
 use Rattle.std.proofs.lemmas.Bool.Decides.{nat_tests}
 use Rattle.hb_space.specs.Boxes.{Area, IsArea, Holds, Cuts, holds, side_below, side_from}
 use Rattle.hb_space.proofs.Facts.Lists.{set_cases, IsPoint-set}
-use Rattle.hb_space.proofs.Facts.Boxes.{test-from_Holds, Holds-from_test, Holds-side_below, Holds-side_from}
+use Rattle.hb_space.proofs.Facts.Boxes.{Holds-from_test, Holds-side_below, Holds-side_from}
+pub use Rattle.hb_space.proofs.Facts.Boxes.{test-from_Holds as held_test}
 
--- a box that holds the point passes its test, and one that doesn't fails it
-pub held_test : (a : Area) (p : List ℕ) → IsArea a → Holds a p → holds a p ≡ true
-held_test a p h in_box = test-from_Holds a p h in_box
-
+-- a box that doesn't hold the point fails its test
 pub failed_test : (a : Area) (p : List ℕ) → (Holds a p → ⊥) → holds a p ≡ false
 failed_test a p outside =
     elim (holds a p) as (λ b. (b ≡ true → Holds a p) → b ≡ false) [ true ↦ λ held. absurd (outside (held refl)) | false ↦ λ held. refl ] (Holds-from_test a p)

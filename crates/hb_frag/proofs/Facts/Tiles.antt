@@ -2,15 +2,15 @@
 use Rattle.std.proofs.Common.{◌≡◌, ℕ, zero, suc, ◌<◌, ◌⊎◌, inl, inr, ◌↔◌, true, false, cond, List, [], ◌∷◌, ◌++◌, length, get_or, map, Some, IsSome, refl, sym, ap, subst, ◌∙◌, arith}
 use Rattle.std.specs.List.{All, Any, AllPairs, Contains}
 use Rattle.std.proofs.lemmas.List.{map-append}
-use Rattle.std.proofs.lemmas.List.Elements.{All-append}
+use Rattle.std.proofs.lemmas.List.Elements.{All-append, All-head}
 use Rattle.hb_space.specs.Boxes.{Area, IsArea, Holds, Within, Disjoint, holds, side_below, side_from}
-use Rattle.hb_space.proofs.Facts.Boxes.{Holds-side_below, Holds-side_from, side_cover, Holds-from_test, Within-from_points}
+use Rattle.hb_space.proofs.Facts.Boxes.{Holds-side_below, Holds-side_from, side_cover, Holds-from_test, Within-from_points, test-from_Holds}
 use Rattle.hb_frag.specs.declared.leaves.Leaf.{Leaf}
 use Rattle.hb_frag.specs.Trees.{Tree, Tip, Cut}
 use Rattle.hb_frag.specs.Leaves.{Placed, IsWellCut, first_at, leaves_of, leaves, with_leaf_at}
 use Rattle.hb_frag.specs.Laws.{changed_at}
-use Rattle.hb_frag.proofs.Facts.Sides.{held_test, IsArea-side_below, IsArea-side_from, same-side_from}
-use Rattle.hb_lemmas.proofs.Lists.{All-alone}
+use Rattle.hb_frag.proofs.Facts.Sides.{IsArea-side_below, IsArea-side_from, same-side_from}
+use Rattle.hb_lemmas.proofs.Lists.{All-alone, All-parts}
 
 -- some leaf's box holds the point
 abbrev pub SomeLeaf : List ℕ → List Placed → Type 0
@@ -136,7 +136,7 @@ only_first : (xs : List Placed) (p : List ℕ) (w : Placed) → All (λ l. IsAre
 only_first [] p w h apart k lt e held = absurd (omega arith)
 only_first (x ∷ xs) p w h apart zero lt e held =
     let P : Placed → Type 0 = λ l. Holds l.area p in
-    rw (held_test x.area p (h zero x (omega arith)) (subst P (sym e) held)) (ap Some e)
+    rw (test-from_Holds x.area p (h zero x (omega arith)) (subst P (sym e) held)) (ap Some e)
 only_first (x ∷ xs) p w h apart (suc k) lt e held =
     let rest = only_first xs p w (λ j d l. h (suc j) d (omega arith)) apart.1 k (omega arith) e held in
     let here = Holds-from_test x.area p in
@@ -159,7 +159,7 @@ some_first [] p h = (λ t. absurd (cc), λ w. absurd w)
 some_first (x ∷ xs) p h =
     let rest = some_first xs p (λ j d l. h (suc j) d (omega arith)) in
     let here = Holds-from_test x.area p in
-    let back = held_test x.area p (h zero x (omega arith)) in
+    let back = test-from_Holds x.area p (h zero x (omega arith)) in
     elim (holds x.area p) as (λ b. (b ≡ true → Holds x.area p) → (Holds x.area p → b ≡ true) → IsSome (cond b (Some x) (first_at p xs)) ↔ SomeLeaf p (x ∷ xs)) [
       | true ↦ λ here back. (λ t. inl (here refl), λ w. refl)
       | false ↦ λ here back. (λ t. inr (rest.0 t), λ w. elim w [ inl v ↦ absurd (let e = back v in cc) | inr v ↦ rest.1 v ])
@@ -183,6 +183,13 @@ leaves_placed (Cut axis value left right) area =
     let below = leaves_placed left (side_below area axis value) in
     let from = leaves_placed right (side_from area axis value) in
     rw (map-append (λ (l : Placed). l.leaf) (leaves_of left (side_below area axis value)) (leaves_of right (side_from area axis value))) (cc (below, from))
+
+-- what all leaves are, they are with their boxes
+pub placed_all : (P : Leaf → Type 0) (t : Tree) (area : Area) → All P (leaves t) → All (λ (l : Placed). P l.leaf) (leaves_of t area)
+placed_all P (Tip leaf) area all = All-alone (λ (l : Placed). P l.leaf) (record { leaf = leaf; area = area }) (All-head P leaf [] all)
+placed_all P (Cut axis value left right) area all =
+    let both = (All-parts P (leaves left) (leaves right)).0 all in
+    All-append (λ (l : Placed). P l.leaf) (leaves_of left (side_below area axis value)) (leaves_of right (side_from area axis value)) (placed_all P left (side_below area axis value) both.0) (placed_all P right (side_from area axis value) both.1)
 
 -- a change at a point changes the leaf there, and no cut
 pub leaves_changed : (t : Tree) (area : Area) (p : List ℕ) (change : Leaf → Leaf) → leaves_of (with_leaf_at p change t area) area ≡ map (changed_at p change) (leaves_of t area)

@@ -11,8 +11,9 @@ use Rattle.hb_frag.specs.Trees.{Tree, Tip, Cut}
 use Rattle.hb_frag.specs.Leaves.{Placed, IsWellCut, first_at, leaves_of, siblings, first_named}
 use Rattle.hb_frag.specs.Paths.{part_at, way_to, StaysInside}
 use Rattle.hb_frag.proofs.Facts.NamesListed.{siblings-append, named_in_front, named_behind}
-use Rattle.hb_frag.proofs.Facts.Sides.{held_test, is_below, isnt_below}
+use Rattle.hb_frag.proofs.Facts.Sides.{is_below, isnt_below}
 use Rattle.hb_frag.proofs.Facts.Points.{going_left, going_right}
+use Rattle.hb_space.proofs.Facts.Boxes.{test-from_Holds}
 
 -- steps of which this is the first one
 pub first_step : (d s : Side) (path : List Side) → 1 ≤ length path → get_or path 0 d ≡ s → path ≡ s ∷ take (length path - 1) (drop 1 path)
@@ -54,7 +55,7 @@ part_here self path area q = subst (λ (p : List Side). Parts (Some (self, area)
 
 -- the leaf at a point
 pub found_here : (t : Tree) (leaf : Leaf) (area : Area) (p : List ℕ) → t ≡ Tip leaf → IsArea area → Holds area p → first_at p (leaves_of t area) ≡ Some (record { leaf = leaf; area = area })
-found_here t leaf area p e h held = rw (e, held_test area p h held)
+found_here t leaf area p e h held = rw (e, test-from_Holds area p h held)
 
 pub found_left : (t l r l' : Tree) (axis value : ℕ) (area below : Area) (p : List ℕ) (w : Placed) → t ≡ Cut axis value l r → l' ≡ l → below ≡ side_below area axis value → first_at p (leaves_of l' below) ≡ Some w → first_at p (leaves_of t area) ≡ Some w
 found_left t l r l' axis value area below p w e d s h =

@@ -1,5 +1,5 @@
 -- The body that a list of records has under a point, and what a put and a delete make of it.
-use Rattle.std.proofs.Common.{◌≡◌, ◌≢◌, ℕ, zero, suc, ◌<◌, Bool, true, false, cond, List, [], ◌∷◌, ◌++◌, map, filter, length, get_or, Option, Some, None, refl, sym, ap, subst, ◌∙◌, arith}
+use Rattle.std.proofs.Common.{◌≡◌, ◌≢◌, ℕ, zero, suc, ◌<◌, Bool, true, false, cond, List, [], ◌∷◌, ◌++◌, map, filter, length, get_or, Option, Some, None, refl, sym, ap, ◌∙◌, arith}
 use Rattle.std.specs.List.{AllByRecursion}
 use Rattle.std.specs.Option.{option_or}
 use Rattle.std.specs.Ordering.{eq_by_cmp, is_eq, is_gt, is_lt, is_ne}
@@ -7,11 +7,12 @@ use Rattle.std.specs.declared.cmp.Ordering.{Ordering}
 use Rattle.std.specs.declared.cmp.Ordering.TheVariants.{Less, Equal, Greater}
 use Rattle.std.specs.FinMap as finite
 use Rattle.std.specs.FinMap.Entries.{find-where_key, where_key}
-use Rattle.std.proofs.lemmas.Cmp.{nat_list_cmp_total, tied_itself}
+use Rattle.std.proofs.lemmas.Cmp.{nat_list_cmp_total}
 use Rattle.hb_space.specs.Points.{point_cmp}
 use Rattle.hb_space.specs.declared.records.Record.{Record}
 use Rattle.hb_ops.specs.Recording.{joined, without}
 use Rattle.hb_space.proofs.Facts.PointOrder.{exact_points, same_point, other_point}
+use Rattle.hb_lemmas.proofs.Orderings.{alike}
 
 -- a record as an entry, and the first body under a point
 abbrev pub entry_of : Record → List ℕ × List ℕ
@@ -36,7 +37,7 @@ body-lacking q (r ∷ rs) h =
 -- under one that some record has there is one
 pub body_there : (q : List ℕ) (records : List Record) (k : ℕ) (d : Record) → k < length records → (get_or records k d).key ≡ q → (body : List ℕ) × (body_at q records ≡ Some body)
 body_there q [] k d lt e = absurd (omega arith)
-body_there q (r ∷ rs) zero d lt e = (r.body, ap (λ (b : Bool). cond b (Some r.body) (body_at q rs)) (subst (λ (x : List ℕ). eq_by_cmp point_cmp q x ≡ true) (sym e) (ap is_eq (tied_itself nat_list_cmp_total q))))
+body_there q (r ∷ rs) zero d lt e = (r.body, ap (λ (b : Bool). cond b (Some r.body) (body_at q rs)) (alike nat_list_cmp_total q r.key (sym e)))
 body_there q (r ∷ rs) (suc k) d lt e = elim (eq_by_cmp point_cmp q r.key) as (λ b. (body : List ℕ) × (cond b (Some r.body) (body_at q rs) ≡ Some body)) [
   | true ↦ (r.body, refl)
   | false ↦ body_there q rs k d (omega arith) e

@@ -4,6 +4,8 @@ use Rattle.std.specs.List.{filter, sum_by}
 use Rattle.std.specs.Prelude.{slice_index}
 use Rattle.std.specs.Ordering.{is_lt, is_gt, is_ne}
 use Rattle.std.proofs.lemmas.List.Sums.{sum_by-append}
+use Rattle.std.proofs.lemmas.List.Sorted.{All-permutation}
+use Rattle.hb_frag.proofs.Facts.PointOrder.{order_permutes}
 use Rattle.std.proofs.lemmas.List.Elements.{All-append, All-cons, All-filter, All-head, All-nil, All-tail}
 use Rattle.std.proofs.lemmas.Option.{same_Some}
 use Rattle.hb_space.specs.Boxes.{Area, holds, side_below, side_from}
@@ -18,7 +20,7 @@ use Rattle.hb_frag.specs.Leaves.{leaf_weight, leaves, with_leaf_at}
 use Rattle.hb_frag.specs.Paths.{part_at}
 use Rattle.hb_frag.specs.Renaming.{renamed, renamed_leaf}
 use Rattle.hb_frag.specs.Carving.{carve_above, carve_below, carve_from}
-use Rattle.hb_frag.specs.Normal.{in_point_order, normal, one_leaf_or_cut, with_record_in_order}
+use Rattle.hb_frag.specs.Normal.{in_point_order, normal, one_leaf_or_cut}
 use Rattle.hb_frag.specs.Grammar.{FitsLeaf, FitsRecord, FitsTree}
 use Rattle.hb_ops.specs.declared.leaf_cuts.LeafCut.{LeafCut}
 use Rattle.hb_ops.specs.Recording.{joined, on_records, without}
@@ -157,18 +159,6 @@ module _ (k outer inner : ℕ) (outer_fits : outer < 2 ^ 32) (inner_fits : inner
       fit_below axis r c (carve_above axis r c outer (carve_from n (axis + 1) r c outer inner))
       (fit_above axis r c (carve_from n (axis + 1) r c outer inner) (fit_carved n (axis + 1) r c))
 
-order_one : (P : Record → Type 0) (r : Record) (xs : List Record) → P r → All P xs → All P (with_record_in_order r xs)
-order_one P r [] one h = All-alone P r one
-order_one P r (s ∷ rest) one h =
-    elim (is_gt (point_cmp r.key s.key)) as (λ b. All P (cond b (s ∷ with_record_in_order r rest) (r ∷ s ∷ rest))) [
-      | true ↦ All-cons P s (with_record_in_order r rest) (All-head P s rest h) (order_one P r rest one (All-tail P s rest h))
-      | false ↦ All-cons P r (s ∷ rest) one h
-    ]
-
-order_all : (P : Record → Type 0) (xs : List Record) → All P xs → All P (in_point_order xs)
-order_all P [] h = All-nil P
-order_all P (r ∷ rest) h = order_one P r (in_point_order rest) (All-head P r rest h) (order_all P rest (All-tail P r rest h))
-
 module _ (k axis value : ℕ) where
   fit_cut : (left right : Tree) → AllFit k left → AllFit k right → AllFit k (Cut axis value left right)
   fit_cut left right l r = All-append (FitsIn k) (leaves left) (leaves right) l r
@@ -176,7 +166,7 @@ module _ (k axis value : ℕ) where
   fit_joined : (left right : Tree) → AllFit k left → AllFit k right → AllFit k (one_leaf_or_cut axis value left right)
   fit_joined (Tip (Records xs)) (Tip (Records ys)) l r =
       All-alone (FitsIn k) (Records (in_point_order (xs ++ ys)))
-      (order_all (FitsRecord k) (xs ++ ys) (All-append (FitsRecord k) xs ys (All-head (FitsIn k) (Records xs) [] l) (All-head (FitsIn k) (Records ys) [] r)))
+      (All-permutation (FitsRecord k) (xs ++ ys) (in_point_order (xs ++ ys)) (order_permutes (xs ++ ys)) (All-append (FitsRecord k) xs ys (All-head (FitsIn k) (Records xs) [] l) (All-head (FitsIn k) (Records ys) [] r)))
   fit_joined (Tip (Child page)) (Tip (Child other)) l r =
       elim (page == other) as (λ b. AllFit k (cond b (Tip (Child page)) (Cut axis value (Tip (Child page)) (Tip (Child other))))) [
         | true ↦ l

@@ -12,12 +12,14 @@ use Rattle.hb_frag.specs.declared.paths.Side.TheVariants.{Left, Right}
 use Rattle.hb_frag.specs.Trees.{Tree, Tip, Cut}
 use Rattle.hb_frag.specs.Leaves.{IsWellCut, Placed, WellCut, first_at, leaf_at, leaf_weight, leaves_of, records_of, weight_of, with_leaf_at}
 use Rattle.hb_frag.specs.Paths.{StaysInside, way_to}
-use Rattle.hb_frag.specs.Rules.{AreInOrder, IsInOrder, Precedes, capacity_of}
+use Rattle.hb_frag.specs.Rules.{AreInOrder, IsInOrder, Precedes, capacity_of, point_of}
 use Rattle.hb_frag.proofs.Facts.OrderedLeaves.{sides_apart}
 use Rattle.hb_layout.specs.declared.meta.Meta.{Meta}
-use Rattle.hb_ops.specs.Recording.{HasGap, HasPlace, IsAt, IsGapFor, IsOpenAt, FitsDel, FitsPut, joined, on_records, page_with, put_page}
+use Rattle.hb_ops.specs.Recording.{HasGap, HasPlace, IsOpenAt, FitsDel, FitsPut, joined, on_records, page_with, put_page}
 use Rattle.hb_ops.proofs.Facts.Places.{gap_lacks, joined_at, place_has}
 use Rattle.hb_ops.proofs.Facts.Tips.{first_append, first_held, parted, tip_at, unchanged}
+use Rattle.hb_lemmas.specs.Places.{IsGapFor, IsPlaceOf}
+use Rattle.hb_space.specs.Points.{point_cmp}
 
 -- what is true of each leaf is true of the first one at a point
 pub first_has : (P : Placed → Type 0) (p : List ℕ) (xs : List Placed) (placed : Placed) → first_at p xs ≡ Some placed → All P xs → P placed
@@ -72,7 +74,7 @@ weight_changed page p records area change cut e =
     let new : weight_of (page_with p change page).frag ≡ sum (map leaf_weight at.before) + (max 1 (length (change records)) + sum (map leaf_weight at.after)) = ap (λ (ls : List Leaf). sum (map leaf_weight ls)) (at.changed (on_records change)) ∙ weights at.before (Records (change records)) at.after in
     omega arith
 
-length-joined : (records : List Record) (rec : Record) (i : ℕ) → IsGapFor records rec.key i → length (joined rec records) ≡ length records + 1
+length-joined : (records : List Record) (rec : Record) (i : ℕ) → IsGapFor point_cmp point_of records rec.key i → length (joined rec records) ≡ length records + 1
 length-joined records rec i gap =
     let parts : length (joined rec records) ≡ length (take i records) + length (rec ∷ drop i records) = ap length (joined_at records rec i gap) ∙ length-append (take i records) (rec ∷ drop i records) in
     omega (arith, parts, length-take i records, length-drop i records, gap.in_range)
@@ -83,13 +85,13 @@ one_more (x ∷ xs) n m e =
     let more : ◌≡◌ {A = ℕ} (cond (length (x ∷ xs) == 0) 0 1) 1 = ap (λ (b : Bool). cond b 0 1) (ne_eqb (length (x ∷ xs)) 0 (λ e. omega arith)) in
     omega arith
 
-pub weight_after_put : (meta : Meta) (page : LivePage) (rec : Record) (records : List Record) (i : ℕ) → IsOpenAt meta page rec.key records → IsGapFor records rec.key i → weight_of (put_page rec page).frag ≡ weight_of page.frag + cond (length records == 0) 0 1
+pub weight_after_put : (meta : Meta) (page : LivePage) (rec : Record) (records : List Record) (i : ℕ) → IsOpenAt meta page rec.key records → IsGapFor point_cmp point_of records rec.key i → weight_of (put_page rec page).frag ≡ weight_of page.frag + cond (length records == 0) 0 1
 weight_after_put meta page rec records i opened gap =
     let changed = weight_changed page rec.key records opened.area (joined rec) opened.made.well_cut opened.leaf in
     one_more records (weight_of (put_page rec page).frag) (weight_of page.frag) (changed ∙ ap (λ (n : ℕ). weight_of page.frag + max 1 n) (length-joined records rec i gap))
 
 -- so a put is allowed where the point has a gap and the page has room, and not without room, nor where the point is there
-pub gap_found : (meta : Meta) (page : LivePage) (rec : Record) (records : List Record) (i : ℕ) → IsOpenAt meta page rec.key records → IsGapFor records rec.key i → weight_of page.frag + cond (length records == 0) 0 1 ≤ meta.dcap → HasGap meta page rec records i
+pub gap_found : (meta : Meta) (page : LivePage) (rec : Record) (records : List Record) (i : ℕ) → IsOpenAt meta page rec.key records → IsGapFor point_cmp point_of records rec.key i → weight_of page.frag + cond (length records == 0) 0 1 ≤ meta.dcap → HasGap meta page rec records i
 gap_found meta page rec records i opened gap room = record {
   fits = record {
     made = opened.made;
@@ -101,17 +103,17 @@ gap_found meta page rec records i opened gap room = record {
   gap = gap;
 }
 
-pub no_room : (meta : Meta) (page : LivePage) (rec : Record) (records : List Record) (i : ℕ) → IsOpenAt meta page rec.key records → IsGapFor records rec.key i → meta.dcap < weight_of page.frag + cond (length records == 0) 0 1 → ¬ (FitsPut meta page rec)
+pub no_room : (meta : Meta) (page : LivePage) (rec : Record) (records : List Record) (i : ℕ) → IsOpenAt meta page rec.key records → IsGapFor point_cmp point_of records rec.key i → meta.dcap < weight_of page.frag + cond (length records == 0) 0 1 → ¬ (FitsPut meta page rec)
 no_room meta page rec records i opened gap full fits = omega (arith, weight_after_put meta page rec records i opened gap, fits.room)
 
-pub taken : (meta : Meta) (page : LivePage) (rec : Record) (records : List Record) (i : ℕ) → IsOpenAt meta page rec.key records → IsAt records rec.key i → ¬ (FitsPut meta page rec)
+pub taken : (meta : Meta) (page : LivePage) (rec : Record) (records : List Record) (i : ℕ) → IsOpenAt meta page rec.key records → IsPlaceOf point_of records rec.key i → ¬ (FitsPut meta page rec)
 taken meta page rec records i opened here fits =
     let same : fits.absent.records ≡ records = same_records page rec.key fits.absent.records records fits.absent.area opened.area fits.absent.leaf opened.leaf in
     let some : Record = record { key = []; body = [] } in
-    subst (λ (rs : List Record). All (λ (r : Record). r.key ≢ rec.key) rs) same fits.absent.keeps i some here.in_range (here.same_point some)
+    subst (λ (rs : List Record). All (λ (r : Record). r.key ≢ rec.key) rs) same fits.absent.keeps i some here.in_range (here.same_key some)
 
 -- and a delete where the point is there, and not where it has a gap
-pub place_found : (meta : Meta) (page : LivePage) (point : List ℕ) (records : List Record) (i : ℕ) → IsOpenAt meta page point records → IsAt records point i → HasPlace meta page point records i
+pub place_found : (meta : Meta) (page : LivePage) (point : List ℕ) (records : List Record) (i : ℕ) → IsOpenAt meta page point records → IsPlaceOf point_of records point i → HasPlace meta page point records i
 place_found meta page point records i opened here = record {
   fits = record {
     made = opened.made;
@@ -122,7 +124,7 @@ place_found meta page point records i opened here = record {
   found = here;
 }
 
-pub missing : (meta : Meta) (page : LivePage) (point : List ℕ) (records : List Record) (i : ℕ) → IsOpenAt meta page point records → IsGapFor records point i → ¬ (FitsDel meta page point)
+pub missing : (meta : Meta) (page : LivePage) (point : List ℕ) (records : List Record) (i : ℕ) → IsOpenAt meta page point records → IsGapFor point_cmp point_of records point i → ¬ (FitsDel meta page point)
 missing meta page point records i opened gap fits =
     let same : fits.there.records ≡ records = same_records page point fits.there.records records fits.there.area opened.area fits.there.leaf opened.leaf in
     let any : Any (λ (r : Record). r.key ≡ point) records = subst (λ (rs : List Record). Any (λ (r : Record). r.key ≡ point) rs) same fits.there.keeps in

@@ -1,13 +1,13 @@
 -- The leaves of a tree with their boxes: each is a leaf of the tree, and which of them are its sibling leaves.
-use Rattle.std.proofs.Common.{◌≡◌, zero, suc, List, [], ◌∷◌, refl, ap, ◌∙◌, arith, inl, inr, ℕ}
+use Rattle.std.proofs.Common.{◌≡◌, zero, suc, List, [], ◌∷◌, refl, ap, ◌∙◌, arith, inl, inr, ℕ, ◌⊎◌, subst, sym}
 use Rattle.std.specs.List.{All, Contains}
 use Rattle.std.proofs.lemmas.List.Elements.{All-append, All-cons, All-nil, Contains-append_cases, Contains-append_left, Contains-append_right}
 use Rattle.hb_space.specs.Boxes.{Area, side_below, side_from}
 use Rattle.hb_frag.specs.declared.leaves.Leaf.{Leaf}
 use Rattle.hb_frag.specs.Trees.{Tree, Tip, Cut}
-use Rattle.hb_frag.specs.Leaves.{Placed, leaves, leaves_of, siblings}
+use Rattle.hb_frag.specs.Leaves.{Placed, leaves, leaves_of, siblings, children}
 use Rattle.hb_frag.specs.declared.leaves.Leaf.TheVariants.{Records, Child, Sibling}
-use Rattle.hb_lemmas.proofs.Lists.{later_member}
+use Rattle.hb_lemmas.proofs.Lists.{later_member, first_member, member_cases, no_member}
 
 -- a leaf with its box
 abbrev pub placed : Leaf → Area → Placed
@@ -73,3 +73,31 @@ placed_leaf (Cut axis value left right) area leaf has =
       | inl l ↦ let one = placed_leaf left (side_below area axis value) leaf l in (one.0, Contains-append_left below from (placed leaf one.0) one.1)
       | inr r ↦ let one = placed_leaf right (side_from area axis value) leaf r in (one.0, Contains-append_right below from (placed leaf one.0) one.1)
     ]
+
+-- ---- the list of child leaves
+
+-- what is listed is the first leaf, or a later one
+first_listed : (leaf : Leaf) (a : Area) (rest : List Placed) (name : ℕ) (area : Area) → Contains (children (placed leaf a ∷ rest)) (name, area) → (placed leaf a ≡ placed (Child name) area) ⊎ Contains (children rest) (name, area)
+first_listed (Records records) a rest name area has = inr has
+first_listed (Sibling page) a rest name area has = inr has
+first_listed (Child page) a rest name area has = by (member_cases (page, a) (children rest) (name, area) has)
+  where
+    by : (◌≡◌ {A = ℕ × Area} (page, a) (name, area)) ⊎ Contains (children rest) (name, area) → (placed (Child page) a ≡ placed (Child name) area) ⊎ Contains (children rest) (name, area)
+    by (inl here) = inl (ap (λ (x : ℕ × Area). placed (Child x.0) x.1) here)
+    by (inr later) = inr later
+
+pub listed_child : (ls : List Placed) (name : ℕ) (area : Area) → Contains (children ls) (name, area) → Contains ls (placed (Child name) area)
+listed_child [] name area has = absurd (no_member (name, area) has)
+listed_child (x ∷ rest) name area has = by (first_listed x.leaf x.area rest name area has) (listed_child rest name area)
+  where
+    by : (x ≡ placed (Child name) area) ⊎ Contains (children rest) (name, area) → (Contains (children rest) (name, area) → Contains rest (placed (Child name) area)) → Contains (x ∷ rest) (placed (Child name) area)
+    by (inl here) in_rest = subst (λ (y : Placed). Contains (x ∷ rest) y) here (first_member x rest)
+    by (inr later) in_rest = later_member x rest (placed (Child name) area) (in_rest later)
+
+pub child_listed : (ls : List Placed) (name : ℕ) (area : Area) → Contains ls (placed (Child name) area) → Contains (children ls) (name, area)
+child_listed [] name area has = absurd (no_member (placed (Child name) area) has)
+child_listed (x ∷ rest) name area has = by (member_cases x rest (placed (Child name) area) has) (child_listed rest name area)
+  where
+    by : (x ≡ placed (Child name) area) ⊎ Contains rest (placed (Child name) area) → (Contains rest (placed (Child name) area) → Contains (children rest) (name, area)) → Contains (children (x ∷ rest)) (name, area)
+    by (inl here) in_rest = subst (λ (y : Placed). Contains (children (y ∷ rest)) (name, area)) (sym here) (first_member (name, area) (children rest))
+    by (inr later) in_rest = Contains-append_right _ (children rest) (name, area) (in_rest later)

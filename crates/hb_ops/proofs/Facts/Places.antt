@@ -1,50 +1,18 @@
 -- A point among records in the order of their points: what a search for it finds, and what an edit there makes.
-use Rattle.std.proofs.Common.{◌≡◌, ◌≢◌, ℕ, zero, suc, ◌+◌, ◌<◌, Bool, true, false, cond, List, [], ◌∷◌, ◌++◌, length, get_or, take, drop, filter, All, AllPairs, Any, Result, Ok, Err, IfOk, IfErr, refl, sym, ap, subst, ◌∙◌, arith, inl, inr, add-one}
-use Rattle.std.specs.List.Sorted.{IsNonDecreasingBy, IsBinarySearchResult, IsSearchInRange}
-use Rattle.std.specs.Ordering.{is_gt, is_lt, is_ne, ordering_index}
+use Rattle.std.proofs.Common.{◌≡◌, ◌≢◌, ℕ, zero, suc, ◌+◌, ◌<◌, Bool, true, false, cond, List, [], ◌∷◌, ◌++◌, length, get_or, take, drop, filter, All, AllPairs, Any, refl, sym, ap, subst, ◌∙◌, arith, inl, inr, add-one}
+use Rattle.std.specs.Ordering.{is_gt, is_lt, is_ne}
 use Rattle.std.specs.declared.cmp.Ordering.{Ordering}
 use Rattle.std.specs.declared.cmp.Ordering.TheVariants.{Less, Equal, Greater}
 use Rattle.std.proofs.lemmas.Bool.{cases_lt}
 use Rattle.std.proofs.lemmas.Cmp.{nat_list_cmp_total, tied_itself}
 use Rattle.std.proofs.lemmas.List.{get_or_default}
-use Rattle.std.proofs.lemmas.List.Sorted.{searchable_from_sorted}
 use Rattle.hb_space.specs.Points.{point_cmp}
 use Rattle.hb_space.specs.declared.records.Record.{Record}
-use Rattle.hb_frag.specs.Rules.{Precedes}
-use Rattle.hb_ops.specs.Recording.{IsAt, IsGapFor, joined, without}
-use Rattle.hb_space.proofs.Facts.PointOrder.{exact_points, turned}
-
--- the comparisons with a point rise, as a binary search asks
-pub comparisons_rise : (records : List Record) (p : List ℕ) → AllPairs Precedes records → IsNonDecreasingBy (λ r. ordering_index (point_cmp r.key p)) records
-comparisons_rise records p rise = searchable_from_sorted nat_list_cmp_total (λ r. r.key) records p (λ k d low high. ap is_lt (turned (get_or records k d).key (get_or records (k + 1) d).key Less (rise k (k + 1) d (omega arith) high)))
-
--- a binary search ends at the point, or at the gap for it
-pub found_at : (records : List Record) (p : List ℕ) (r : Result ℕ ℕ) → IsSearchInRange r (length records) → IsBinarySearchResult (λ r. point_cmp r.key p) records r → IfOk r (IsAt records p)
-found_at records p (Ok i) in_range here = record { in_range = in_range; same_point = λ d. exact_points _ _ (here d) }
-found_at records p (Err i) in_range here = tt
-
-pub gap_at : (records : List Record) (p : List ℕ) → AllPairs Precedes records → (r : Result ℕ ℕ) → IsSearchInRange r (length records) → IsBinarySearchResult (λ r. point_cmp r.key p) records r → IfErr r (IsGapFor records p)
-gap_at records p rise (Ok i) in_range parted = tt
-gap_at records p rise (Err i) in_range parted = record {
-  in_range = in_range;
-  lesser_before = (parted (comparisons_rise records p rise)).0;
-  greater_after = (parted (comparisons_rise records p rise)).1;
-}
-
--- the gap in the records after the first one
-gap_later : (x : Record) (xs : List Record) (p : List ℕ) (i : ℕ) → IsGapFor (x ∷ xs) p (suc i) → IsGapFor xs p i
-gap_later x xs p i gap = record {
-  in_range = omega (arith, gap.in_range);
-  lesser_before = λ k d low high. gap.lesser_before (suc k) d (omega arith) (omega arith);
-  greater_after = λ k d low high. gap.greater_after (suc k) d (omega arith) (omega arith);
-}
-
-gap_first : (x : Record) (xs : List Record) (p : List ℕ) → IsGapFor (x ∷ xs) p zero → IsGapFor xs p zero
-gap_first x xs p gap = record {
-  in_range = omega arith;
-  lesser_before = λ k d low high. absurd (omega arith);
-  greater_after = λ k d low high. gap.greater_after (suc k) d (omega arith) (omega arith);
-}
+use Rattle.hb_frag.specs.Rules.{Precedes, point_of}
+use Rattle.hb_ops.specs.Recording.{joined, without}
+use Rattle.hb_space.proofs.Facts.PointOrder.{turned}
+use Rattle.hb_lemmas.specs.Places.{IsGapFor, IsPlaceOf}
+use Rattle.hb_lemmas.proofs.Places.{gap_first, gap_later}
 
 -- the records whose order to a point passes a test
 abbrev ordered : (Ordering → Bool) → List ℕ → List Record → List Record
@@ -53,26 +21,26 @@ ordered test p records = filter (λ (r : Record). test (point_cmp r.key p)) reco
 first_kept : (test : Ordering → Bool) (p : List ℕ) (x : Record) (xs : List Record) (o : Ordering) → point_cmp x.key p ≡ o → ordered test p (x ∷ xs) ≡ cond (test o) (x ∷ ordered test p xs) (ordered test p xs)
 first_kept test p x xs o e = ap (λ (o : Ordering). cond (test o) (x ∷ ordered test p xs) (ordered test p xs)) e
 
-lesser_are : (records : List Record) (p : List ℕ) (i : ℕ) → IsGapFor records p i → ordered is_lt p records ≡ take i records
+lesser_are : (records : List Record) (p : List ℕ) (i : ℕ) → IsGapFor point_cmp point_of records p i → ordered is_lt p records ≡ take i records
 lesser_are [] p zero gap = refl
 lesser_are [] p (suc i) gap = refl
-lesser_are (x ∷ xs) p zero gap = first_kept is_lt p x xs Greater (gap.greater_after 0 x (omega arith) (omega arith)) ∙ lesser_are xs p zero (gap_first x xs p gap)
-lesser_are (x ∷ xs) p (suc i) gap = first_kept is_lt p x xs Less (gap.lesser_before 0 x (omega arith) (omega arith)) ∙ ap (λ (rs : List Record). x ∷ rs) (lesser_are xs p i (gap_later x xs p i gap))
+lesser_are (x ∷ xs) p zero gap = first_kept is_lt p x xs Greater (gap.greater_after 0 x (omega arith) (omega arith)) ∙ lesser_are xs p zero (gap_first point_of x xs p gap)
+lesser_are (x ∷ xs) p (suc i) gap = first_kept is_lt p x xs Less (gap.lesser_before 0 x (omega arith) (omega arith)) ∙ ap (λ (rs : List Record). x ∷ rs) (lesser_are xs p i (gap_later point_of x xs p i gap))
 
-greater_are : (records : List Record) (p : List ℕ) (i : ℕ) → IsGapFor records p i → ordered is_gt p records ≡ drop i records
+greater_are : (records : List Record) (p : List ℕ) (i : ℕ) → IsGapFor point_cmp point_of records p i → ordered is_gt p records ≡ drop i records
 greater_are [] p zero gap = refl
 greater_are [] p (suc i) gap = refl
-greater_are (x ∷ xs) p zero gap = first_kept is_gt p x xs Greater (gap.greater_after 0 x (omega arith) (omega arith)) ∙ ap (λ (rs : List Record). x ∷ rs) (greater_are xs p zero (gap_first x xs p gap))
-greater_are (x ∷ xs) p (suc i) gap = first_kept is_gt p x xs Less (gap.lesser_before 0 x (omega arith) (omega arith)) ∙ greater_are xs p i (gap_later x xs p i gap)
+greater_are (x ∷ xs) p zero gap = first_kept is_gt p x xs Greater (gap.greater_after 0 x (omega arith) (omega arith)) ∙ ap (λ (rs : List Record). x ∷ rs) (greater_are xs p zero (gap_first point_of x xs p gap))
+greater_are (x ∷ xs) p (suc i) gap = first_kept is_gt p x xs Less (gap.lesser_before 0 x (omega arith) (omega arith)) ∙ greater_are xs p i (gap_later point_of x xs p i gap)
 
 -- a record goes into its gap
-pub joined_at : (records : List Record) (rec : Record) (i : ℕ) → IsGapFor records rec.key i → joined rec records ≡ take i records ++ (rec ∷ drop i records)
+pub joined_at : (records : List Record) (rec : Record) (i : ℕ) → IsGapFor point_cmp point_of records rec.key i → joined rec records ≡ take i records ++ (rec ∷ drop i records)
 joined_at records rec i gap =
     ap (λ (rs : List Record). rs ++ (rec ∷ ordered is_gt rec.key records)) (lesser_are records rec.key i gap)
     ∙ ap (λ (rs : List Record). take i records ++ (rec ∷ rs)) (greater_are records rec.key i gap)
 
 -- the point with a gap isn't there
-pub gap_lacks : (records : List Record) (p : List ℕ) (i : ℕ) → IsGapFor records p i → All (λ (r : Record). r.key ≢ p) records
+pub gap_lacks : (records : List Record) (p : List ℕ) (i : ℕ) → IsGapFor point_cmp point_of records p i → All (λ (r : Record). r.key ≢ p) records
 gap_lacks records p i gap k d lt e =
     let same : point_cmp (get_or records k d).key p ≡ Equal = ap (λ (x : List ℕ). point_cmp x p) e ∙ tied_itself nat_list_cmp_total p in
     elim (cases_lt k i) [
@@ -81,10 +49,10 @@ gap_lacks records p i gap k d lt e =
     ]
 
 -- and one with a place is
-pub place_has : (records : List Record) (p : List ℕ) (i : ℕ) → IsAt records p i → Any (λ (r : Record). r.key ≡ p) records
+pub place_has : (records : List Record) (p : List ℕ) (i : ℕ) → IsPlaceOf point_of records p i → Any (λ (r : Record). r.key ≡ p) records
 place_has records p i here =
     let some : Record = record { key = []; body = [] } in
-    (i, get_or records i some, here.in_range, get_or_default records i (get_or records i some) some here.in_range, here.same_point some)
+    (i, get_or records i some, here.in_range, get_or_default records i (get_or records i some) some here.in_range, here.same_key some)
 
 -- the record at the place, and no other, fails a test
 record Fails (test : Record → Bool) (records : List Record) (i : ℕ) : Type 0 where
@@ -112,17 +80,17 @@ one_fails test (x ∷ xs) (suc i) h =
     }))
 
 -- the record of the point goes from its place
-pub without_at : (records : List Record) (p : List ℕ) (i : ℕ) → AllPairs Precedes records → IsAt records p i → without p records ≡ take i records ++ drop (i + 1) records
+pub without_at : (records : List Record) (p : List ℕ) (i : ℕ) → AllPairs Precedes records → IsPlaceOf point_of records p i → without p records ≡ take i records ++ drop (i + 1) records
 without_at records p i rise here =
     one_fails (λ (r : Record). is_ne (point_cmp r.key p)) records i (record {
       in_range = here.in_range;
-      here = λ d. ap (λ (x : List ℕ). is_ne (point_cmp x p)) (here.same_point d) ∙ ap is_ne (tied_itself nat_list_cmp_total p);
+      here = λ d. ap (λ (x : List ℕ). is_ne (point_cmp x p)) (here.same_key d) ∙ ap is_ne (tied_itself nat_list_cmp_total p);
       others = λ k d ne lt. elim (cases_lt k i) [
         | inl before ↦
-            let less : point_cmp (get_or records k d).key p ≡ Less = subst (λ (x : List ℕ). point_cmp (get_or records k d).key x ≡ Less) (here.same_point d) (rise k i d before here.in_range) in
+            let less : point_cmp (get_or records k d).key p ≡ Less = subst (λ (x : List ℕ). point_cmp (get_or records k d).key x ≡ Less) (here.same_key d) (rise k i d before here.in_range) in
             ap is_ne less
         | inr after ↦
-            let less : point_cmp p (get_or records k d).key ≡ Less = subst (λ (x : List ℕ). point_cmp x (get_or records k d).key ≡ Less) (here.same_point d) (rise i k d (omega arith) lt) in
+            let less : point_cmp p (get_or records k d).key ≡ Less = subst (λ (x : List ℕ). point_cmp x (get_or records k d).key ≡ Less) (here.same_key d) (rise i k d (omega arith) lt) in
             ap is_ne (turned p (get_or records k d).key Less less)
       ];
     })

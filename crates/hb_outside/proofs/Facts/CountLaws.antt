@@ -1,8 +1,10 @@
 -- How counts of faults go on over one call after another.
-use Rattle.std.proofs.Common.{◌≡◌, ℕ, ◌≤◌, inl, inr, subst, arith}
+use Rattle.std.proofs.Common.{◌≡◌, ℕ, ◌≤◌, inl, inr, subst, arith, ◌-◌, ◌^◌}
 use Rattle.std.proofs.Math.Nat.{lt_of_le_of_lt}
 use Rattle.hb_outside.specs.Calls.{Counts}
 use Rattle.hb_outside.specs.Streams.{Rose}
+use Rattle.std.proofs.lemmas.Bool.{cases_lt}
+use Rattle.hb_outside.specs.Memory.{next_count}
 
 -- a count that rose in the later of two calls rose in both
 pub Rose-later : (a b c : ℕ) → a ≤ b → Rose b c → Rose a c
@@ -24,3 +26,10 @@ Counts-rose failed le rose = record { cause = λ _. rose; no_fault = λ never. a
 -- a call behind one that didn't fail
 pub Counts-then : {first second : Type 0} {a b c : ℕ} → (first → ⊥) → Counts first a b → Counts second b c → Counts second a c
 Counts-then {second = second} {c = c} never one two = subst (λ (n : ℕ). Counts second n c) (one.no_fault never) two
+
+-- a count that went on rose
+pub Rose-next_count : (before after : ℕ) → after ≡ next_count before → Rose before after
+Rose-next_count before after e = elim (cases_lt before (2 ^ 64 - 1)) [
+  | inl less ↦ inl (omega (arith, less))
+  | inr last ↦ inr (omega (arith, last))
+]

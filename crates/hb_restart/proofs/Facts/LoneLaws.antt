@@ -6,7 +6,6 @@ use Rattle.hb_space.specs.Boxes.{whole_area}
 use Rattle.hb_frag.specs.declared.pages.LivePage.{LivePage}
 use Rattle.hb_frag.specs.declared.pages.Page.{Page}
 use Rattle.hb_frag.specs.declared.pages.Page.TheVariants.{Live, Free}
-use Rattle.hb_frag.proofs.Facts.Kinds.{same_live}
 use Rattle.hb_layout.specs.declared.meta.Meta.{Meta}
 use Rattle.hb_ops.specs.Files.{FileState, page_at, live_page}
 use Rattle.hb_ops.specs.Sound.{IsRooted, IsCounted}
@@ -30,10 +29,6 @@ live_alone meta p id q e = page_alone p id (Live q) (live_so (page_at (p ∷ [])
 module _ (meta : Meta) (page : LivePage) where
   abbrev file : FileState
   file = lone meta (Live page)
-
-  -- the page in use under a number is the one page
-  pub alone : (id : ℕ) (q : LivePage) → live_page file id ≡ Some q → (id ≡ 1) × (page ≡ q)
-  alone id q e = let is = live_alone meta (Live page) id q e in (is.0, same_live page q is.1)
 
   -- the file keeps the rules of the root where the page is all of the space and stands at the level of the root
   pub to_rooted : meta.high ≡ 1 → 1 ≤ meta.pages → meta.root ≡ 1 → meta.free ≤ 1 → meta.live ≤ 1 → page.level + 1 ≡ meta.height → page.area ≡ whole_area meta.k → IsRooted file

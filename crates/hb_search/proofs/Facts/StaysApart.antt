@@ -1,5 +1,5 @@
 -- What remains of a search's boxes and what it found stay apart at a leaf of records.
-use Rattle.std.proofs.Common.{◌≡◌, ℕ, ◌<◌, true, List, [], ◌∷◌, ◌++◌, length, get_or, All, AllPairs, refl, sym, subst}
+use Rattle.std.proofs.Common.{◌≡◌, ℕ, ◌<◌, true, List, [], ◌∷◌, ◌++◌, length, get_or, All, AllPairs, refl, subst}
 use Rattle.std.specs.List.{Contains}
 use Rattle.std.proofs.lemmas.List.Elements.{All-contains, Contains-get_or, filter_passes}
 use Rattle.std.proofs.lemmas.List.{get_or_default}
@@ -8,7 +8,8 @@ use Rattle.hb_lemmas.proofs.Lists.{All-front, All-last, All-parts, All-one, filt
 use Rattle.hb_lemmas.proofs.Pairs.{pairs_append, pairs_parts}
 use Rattle.hb_search.specs.Gathering.{boxes_then}
 use Rattle.hb_search.specs.SearchRows.{records_within}
-use Rattle.hb_search.specs.Searching.{Differ, IsGathering}
+use Rattle.hb_frag.specs.Rules.{Differ}
+use Rattle.hb_search.specs.Searching.{IsGathering}
 use Rattle.hb_space.proofs.Facts.Boxes.{Holds-common_area, Holds-from_test, IsArea-common_area, Within-common_area, lo_held}
 use Rattle.hb_space.proofs.Facts.Outside.{cover_from_pieces, disjoint_from_pieces}
 use Rattle.hb_space.specs.Boxes.{Area, Disjoint, Holds, IsArea, Meets, Within, common_area, holds, pieces_outside}
@@ -31,7 +32,7 @@ module _ (front : List Area) (found records : List Record) (at_hand area : Area)
 
   all_once : AllPairs Differ (found ++ taken)
   all_once = pairs_append Differ found taken gathering.once (AllPairs-filter Differ (λ r. holds at_hand r.key) records once)
-      (λ k d lt i e within is. out_of_hand (get_or found k d) (Contains-get_or found k d lt) (subst (Holds at_hand) (sym is) (in_hand (get_or taken i e) (Contains-get_or taken i e within))))
+      (λ k d lt i e within is. out_of_hand (get_or found k d) (Contains-get_or found k d lt) (subst (Holds at_hand) is (in_hand (get_or taken i e) (Contains-get_or taken i e within))))
 
   abbrev shared : Area
   shared = common_area at_hand area

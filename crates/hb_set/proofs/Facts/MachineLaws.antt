@@ -1,14 +1,13 @@
 -- What follows from the machine's definitions.
-use Rattle.std.proofs.Common.{◌≡◌, ℕ, Bool, true, false, cond, not, List, [], ◌∷◌, length, map, Option, Some, None, T, refl, sym, ap, subst, ◌∙◌, arith}
-use Rattle.std.specs.Ordering.{is_eq, eq_by_cmp}
+use Rattle.std.proofs.Common.{◌≡◌, ℕ, Bool, true, false, cond, not, List, [], ◌∷◌, length, map, Option, Some, None, refl, sym, subst, arith}
+use Rattle.std.specs.Ordering.{eq_by_cmp}
 use Rattle.std.specs.declared.cmp.Ordering.TheVariants.{Less, Equal, Greater}
 use Rattle.std.specs.List.{AllByRecursion}
 use Rattle.std.specs.FinMap as map
-use Rattle.std.specs.FinMap.Entries.{where_key, put, by_order, is_sorted-where_key, find-where_key}
-use Rattle.std.proofs.lemmas.Cmp.{nat_list_cmp_total, alike_right, eq_by_cmp_equiv}
+use Rattle.std.specs.FinMap.Entries.{put, by_order}
+use Rattle.std.proofs.lemmas.Cmp.{nat_list_cmp_total}
 use Rattle.std.proofs.lemmas.List.{length-map}
 use Rattle.std.proofs.lemmas.List.Elements.{All-from_recursion, recursion_from_All}
-use Rattle.hb_lemmas.proofs.Booleans.{cond-not}
 use Rattle.hb_space.specs.Points.{point_cmp}
 use Rattle.hb_space.specs.declared.records.Record.{Record}
 use Rattle.hb_space.proofs.Facts.PointOrder.{exact_points}
@@ -17,6 +16,7 @@ use Rattle.hb_set.specs.declared.commands.Command.TheVariants.{Insert, Delete, L
 use Rattle.hb_set.specs.declared.commands.Reply.{Reply}
 use Rattle.hb_set.specs.declared.commands.Reply.TheVariants.{Done, Duplicate, Absent, Full, NoMemory, ReadFault}
 use Rattle.hb_set.specs.Machine.{RecordSet, record_of, set_records, if_there, found_or_missing, reply_of, set_after, Answers, attributes, HasAttributes}
+use Rattle.hb_lemmas.proofs.SortedEntries.{without, entries-remove}
 
 -- the machine never answers `full`, `no memory` or `read fault`
 abbrev pub is_replied : Reply → Bool
@@ -30,25 +30,6 @@ replied (Insert r) m = elim (map.get m r.key) as (λ o. is_replied (if_there o D
 replied (Delete p) m = elim (map.get m p) as (λ o. is_replied (if_there o Done Absent) ≡ true) [ None ↦ refl | Some body ↦ refl ]
 replied (Lookup p) m = elim (map.get m p) as (λ o. is_replied (found_or_missing o) ≡ true) [ None ↦ refl | Some body ↦ refl ]
 replied (Search a) m = refl
-
--- the entries without those of a point
-abbrev pub entries_without : List ℕ → List (List ℕ × List ℕ) → List (List ℕ × List ℕ)
-entries_without p es = where_key point_cmp (λ x. not (eq_by_cmp point_cmp p x)) es
-
-sorted_without : (m : RecordSet) (p : List ℕ) → T (map.is_sorted point_cmp (entries_without p (map.entries m)))
-sorted_without m p = is_sorted-where_key point_cmp (λ x. not (eq_by_cmp point_cmp p x)) (map.entries m) (map.entries_sorted m)
-
--- what a removal leaves, as entries
-pub entries-remove : (m : RecordSet) (p : List ℕ) → map.entries (map.remove m p) ≡ entries_without p (map.entries m)
-entries-remove m p =
-    let same : map.remove m p ≡ map.from_sorted (entries_without p (map.entries m)) = map.same_map nat_list_cmp_total exact_points _ _ (λ q.
-    map.get-remove nat_list_cmp_total m p q
-    ∙ ap (cond (eq_by_cmp point_cmp q p) None) (map.get-entries m q)
-    ∙ sym (map.get-from_sorted point_cmp (entries_without p (map.entries m)) q (sorted_without m p)
-    ∙ find-where_key point_cmp (λ x. not (eq_by_cmp point_cmp p x)) q (λ x t. ap (λ o. not (is_eq o)) (sym (alike_right nat_list_cmp_total q x p t))) (map.entries m)
-    ∙ cond-not (eq_by_cmp point_cmp p q) _ _
-    ∙ ap (λ b. cond b None (map.find point_cmp q (map.entries m))) ((eq_by_cmp_equiv nat_list_cmp_total).symm p q))) in
-    ap map.entries same ∙ map.entries-from_sorted point_cmp (entries_without p (map.entries m)) (sorted_without m p)
 
 -- an empty set has records of any number of attributes
 pub attributes-empty : (k : ℕ) → HasAttributes k map.empty
@@ -72,9 +53,9 @@ put_has k p v (e ∷ es) new h = elim (point_cmp p e.0) as (λ o. EntriesHave k 
   | Greater ↦ (h.0, put_has k p v es new h.1)
 ]
 
-without_has : (k : ℕ) (p : List ℕ) (es : List (List ℕ × List ℕ)) → EntriesHave k es → EntriesHave k (entries_without p es)
+without_has : (k : ℕ) (p : List ℕ) (es : List (List ℕ × List ℕ)) → EntriesHave k es → EntriesHave k (without nat_list_cmp_total p es)
 without_has k p [] h = tt
-without_has k p (e ∷ es) h = elim (eq_by_cmp point_cmp p e.0) as (λ b. EntriesHave k (cond (not b) (e ∷ entries_without p es) (entries_without p es))) [
+without_has k p (e ∷ es) h = elim (eq_by_cmp point_cmp p e.0) as (λ b. EntriesHave k (cond (not b) (e ∷ without nat_list_cmp_total p es) (without nat_list_cmp_total p es))) [
   | true ↦ without_has k p es h.1
   | false ↦ (h.0, without_has k p es h.1)
 ]
@@ -83,7 +64,7 @@ pub attributes-insert : (k : ℕ) (m : RecordSet) (p v : List ℕ) → length p 
 attributes-insert k m p v new h = attributes_from k (map.insert m p v) (put point_cmp p v (map.entries m)) (map.entries-insert nat_list_cmp_total m p v) (put_has k p v (map.entries m) new (entries_have k m h))
 
 pub attributes-remove : (k : ℕ) (m : RecordSet) (p : List ℕ) → HasAttributes k m → HasAttributes k (map.remove m p)
-attributes-remove k m p h = attributes_from k (map.remove m p) (entries_without p (map.entries m)) (entries-remove m p) (without_has k p (map.entries m) (entries_have k m h))
+attributes-remove k m p h = attributes_from k (map.remove m p) (without nat_list_cmp_total p (map.entries m)) (entries-remove nat_list_cmp_total exact_points m p) (without_has k p (map.entries m) (entries_have k m h))
 
 if_there_both : (P : RecordSet → Type 0) (o : Option (List ℕ)) (m n : RecordSet) → P m → P n → P (if_there o m n)
 if_there_both P None m n p q = q

@@ -5,6 +5,7 @@ use Rattle.hb_set.specs.declared.scripts.Line.{Line}
 use Rattle.hb_set.specs.Machine.{RecordSet, reply_of, set_after}
 use Rattle.hb_set.specs.Laws.{OneAnswer, PartsAreLegal, ResultIsByParts, RepliesAreByParts, RepliesGrow, ResultGrows}
 use Rattle.hb_set.specs.Order.{Entry, AreReplies, result_of, order_lines, MayPrecede, KeepsSessions}
+use Rattle.std.proofs.lemmas.List.Sums.{fold-append}
 
 -- lists of the same lines that both have the machine's replies are one
 pub same_entries : (m : RecordSet) (es fs : List Entry) → order_lines es ≡ order_lines fs → AreReplies m es → AreReplies m fs → es ≡ fs
@@ -23,8 +24,7 @@ one_answer m es fs same p q = let is = same_entries m es fs same p q in (is, ap 
 
 -- an order of two parts
 pub result_of-append : ResultIsByParts
-result_of-append m [] ys = refl
-result_of-append m (x ∷ xs) ys = result_of-append (set_after x.line.command m) xs ys
+result_of-append m xs ys = fold-append (λ (n : RecordSet) (entry : Entry). set_after entry.line.command n) m xs ys
 
 pub replies_cut : (m : RecordSet) (xs ys : List Entry) → AreReplies m (xs ++ ys) → AreReplies m xs × AreReplies (result_of m xs) ys
 replies_cut m [] ys h = (tt, h)

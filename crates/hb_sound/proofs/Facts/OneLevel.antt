@@ -2,7 +2,7 @@
 use Rattle.std.proofs.Common.{◌≡◌, ◌≢◌, ℕ, zero, suc, ◌+◌, ◌<◌, ◌≤◌, inl, inr, List, Option, Some, IsSome, refl, sym, ap, subst, ◌∙◌, arith}
 use Rattle.std.specs.List.{Contains}
 use Rattle.std.proofs.lemmas.List.Elements.{All-contains}
-use Rattle.hb_space.specs.Boxes.{Area, IsArea, Holds, whole_area}
+use Rattle.hb_space.specs.Boxes.{Area, IsArea, Holds, whole_area, volume}
 use Rattle.hb_frag.specs.declared.leaves.Leaf.{Leaf}
 use Rattle.hb_frag.specs.declared.leaves.Leaf.TheVariants.{Sibling}
 use Rattle.hb_frag.specs.declared.pages.LivePage.{LivePage}
@@ -10,31 +10,31 @@ use Rattle.hb_frag.specs.Leaves.{Placed, leaf_at, leaves_of, siblings_of}
 use Rattle.hb_ops.specs.Files.{FileState, live_page}
 use Rattle.hb_ops.specs.Sound.{AreWellMade, IsCovered, SiblingsMatch}
 pub use Rattle.hb_sound.specs.Laws.{TreeLaws}
-use Rattle.hb_sound.proofs.Facts.PagePlaces.{live_there, page_no_wider, total}
+use Rattle.hb_sound.proofs.Facts.PagePlaces.{live_there, page_no_larger, total}
 use Rattle.hb_sound.proofs.SiblingLeaves.{named_among}
 use Rattle.hb_ops.proofs.Facts.PlacedLaws.{placed, sibling_is_leaf}
 use Rattle.hb_ops.proofs.Facts.KnownBoxes.{known_area}
-use Rattle.hb_sound.proofs.Widths.{sibling_narrower, width}
 use Rattle.hb_lemmas.proofs.Options.{one_value}
+use Rattle.hb_ops.proofs.Facts.Volumes.{sibling_fewer}
 
--- the page is named by a sibling leaf of a page of its level, which is wider
+-- the page is named by a sibling leaf of a page of its level, which is larger
 pub record IsNamed (s : FileState) (id : ℕ) (page : LivePage) : Type 0 where
   pub by : ℕ
   pub namer : LivePage
   pub live : live_page s by ≡ Some namer
   pub level : namer.level ≡ page.level
   pub names : Contains (siblings_of namer) (id, page.area)
-  pub wider : width page.area < width namer.area
+  pub larger : volume page.area < volume namer.area
 
 module _ (laws : TreeLaws) (s : FileState) (made : AreWellMade s) (match : SiblingsMatch s) (covered : IsCovered s) where
   abbrev whole : Area
   whole = whole_area s.meta.k
 
-  -- a sibling leaf's box is less wide than its page's
-  pub narrower : (id : ℕ) (page : LivePage) (name : ℕ) (area : Area) → live_page s id ≡ Some page → Contains (siblings_of page) (name, area) → width area < width page.area
-  narrower id page name area live has =
+  -- a sibling leaf's box is smaller than its page's
+  pub smaller : (id : ℕ) (page : LivePage) (name : ℕ) (area : Area) → live_page s id ≡ Some page → Contains (siblings_of page) (name, area) → volume area < volume page.area
+  smaller id page name area live has =
       let well = made id page live in
-      sibling_narrower page.frag page.area name area well.well_cut well.filled.own has
+      sibling_fewer page.frag page.area name area well.well_cut well.filled.own has
 
   pub namer_of : (id : ℕ) (page : LivePage) → live_page s id ≡ Some page → page.area ≢ whole → IsNamed s id page
   namer_of id page live part =
@@ -51,7 +51,7 @@ module _ (laws : TreeLaws) (s : FileState) (made : AreWellMade s) (match : Sibli
         live = here;
         level = sym m.2 ∙ ap (λ (q : LivePage). q.level) same;
         names = names;
-        wider = narrower (suc w.place) w.page id page.area here names;
+        larger = smaller (suc w.place) w.page id page.area here names;
       }
 
   -- What holds of the page of the whole space, and of each page that a page of which it holds names, holds of every page.
@@ -59,14 +59,14 @@ module _ (laws : TreeLaws) (s : FileState) (made : AreWellMade s) (match : Sibli
     pub begins : (id : ℕ) (page : LivePage) → live_page s id ≡ Some page → page.area ≡ whole → P id page
     pub goes_on : (id : ℕ) (page : LivePage) (w : IsNamed s id page) → live_page s id ≡ Some page → P w.by w.namer → P id page
 
-  spread_within : (P : ℕ → LivePage → Type 0) → Spreads P → (n id : ℕ) (page : LivePage) → live_page s id ≡ Some page → total s.pages ≤ n + width page.area → P id page
+  spread_within : (P : ℕ → LivePage → Type 0) → Spreads P → (n id : ℕ) (page : LivePage) → live_page s id ≡ Some page → total s.pages ≤ n + volume page.area → P id page
   spread_within P spreads zero id page live near = elim (known_area page.area whole) [
     | inl is ↦ spreads.begins id page live is
-    | inr ne ↦ let w = namer_of id page live ne in let most = page_no_wider s w.by w.namer w.live in absurd (omega (arith, w.wider, most))
+    | inr ne ↦ let w = namer_of id page live ne in let most = page_no_larger s w.by w.namer w.live in absurd (omega (arith, w.larger, most))
   ]
   spread_within P spreads (suc n) id page live near = elim (known_area page.area whole) [
     | inl is ↦ spreads.begins id page live is
-    | inr ne ↦ let w = namer_of id page live ne in spreads.goes_on id page w live (spread_within P spreads n w.by w.namer w.live (omega (arith, w.wider)))
+    | inr ne ↦ let w = namer_of id page live ne in spreads.goes_on id page w live (spread_within P spreads n w.by w.namer w.live (omega (arith, w.larger)))
   ]
 
   pub spread : (P : ℕ → LivePage → Type 0) → Spreads P → (id : ℕ) (page : LivePage) → live_page s id ≡ Some page → P id page

@@ -1,7 +1,7 @@
--- The page that is split and the page that is made: whom they name, and how wide the new one is.
+-- The page that is split and the page that is made: whom they name, and how large the new one is.
 use Rattle.std.proofs.Common.{◌≡◌, ℕ, ◌+◌, ◌<◌, inl, inr, List, [], ◌∷◌, ◌++◌, refl, sym, ap, ◌∙◌, arith}
 use Rattle.std.specs.List.{Contains}
-use Rattle.hb_space.specs.Boxes.{Area}
+use Rattle.hb_space.specs.Boxes.{Area, volume}
 use Rattle.hb_frag.specs.declared.leaves.Leaf.TheVariants.{Child, Sibling}
 use Rattle.hb_frag.specs.declared.pages.LivePage.{LivePage}
 use Rattle.hb_frag.specs.declared.paths.Side.{Side}
@@ -10,11 +10,10 @@ use Rattle.hb_frag.specs.Leaves.{Placed, leaves_of, IsWellCut}
 use Rattle.hb_frag.specs.Paths.{part_at}
 use Rattle.hb_sound.proofs.Extractions.{Extraction, FitsPart, fresh_page, source_page}
 use Rattle.hb_ops.specs.Cutting.{cut_through}
-use Rattle.hb_sound.proofs.CutWidths.{reached_narrower, reached_no_wider, part_narrower}
+use Rattle.hb_sound.proofs.CutVolumes.{reached_smaller, reached_no_larger, part_smaller}
 use Rattle.hb_ops.proofs.Facts.CutLeafLaws.{StemsFrom}
 use Rattle.hb_sound.proofs.CutNames.{named, named-append, once, through_names}
 use Rattle.hb_ops.proofs.Facts.PlacedLaws.{placed}
-use Rattle.hb_sound.proofs.Widths.{width}
 use Rattle.hb_ops.proofs.Facts.StemLaws.{PartLaws, stretch as stretch_of}
 use Rattle.std.proofs.lemmas.Option.{same_Some}
 
@@ -52,17 +51,17 @@ module _ (laws : PartLaws) (x : Extraction) (page : LivePage) (part : Tree × Ar
       let again = named_three id stretch.front (leaves_of opened part.1) stretch.behind in
       omega (arith, through, before, after, three, again)
 
-  -- the new page's box is less wide
-  pub fresh_narrower : width fresh.area < width page.area
-  fresh_narrower = by_path x.path refl
+  -- the new page's box is smaller
+  pub fresh_smaller : volume fresh.area < volume page.area
+  fresh_smaller = by_path x.path refl
     where
-      by_path : (path : List Side) → x.path ≡ path → width fresh.area < width page.area
+      by_path : (path : List Side) → x.path ≡ path → volume fresh.area < volume page.area
       by_path [] is =
           let root : (page.frag, page.area) ≡ part = same_Some (page.frag, page.area) part (ap (λ (p : List Side). part_at p page.frag page.area) (sym is) ∙ fits.there) in
-          let same = ap (λ (w : Tree × Area). width w.1) root in
-          let less = reached_narrower x.cuts part.0 part.1 (fits.less is) fits.parted in
+          let same = ap (λ (w : Tree × Area). volume w.1) root in
+          let less = reached_smaller x.cuts part.0 part.1 (fits.less is) fits.parted in
           omega (arith, same, less)
       by_path (side ∷ path) is =
-          let less = part_narrower x.path page.frag page.area part (λ e. let both = sym is ∙ e in let no : ⊥ = cc in no) fits.there well_cut in
-          let rest = reached_no_wider x.cuts part.0 part.1 fits.parted in
+          let less = part_smaller x.path page.frag page.area part (λ e. let both = sym is ∙ e in let no : ⊥ = cc in no) fits.there well_cut in
+          let rest = reached_no_larger x.cuts part.0 part.1 fits.parted in
           omega (arith, less, rest)

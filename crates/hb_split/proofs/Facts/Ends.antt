@@ -21,10 +21,7 @@ use Rattle.hb_split.proofs.Thirds.{thirds}
 use Rattle.hb_frag.proofs.Facts.Parts.{weight_cut}
 use Rattle.hb_lemmas.proofs.Booleans.{if_below}
 use Rattle.hb_lemmas.proofs.Lists.{All-front, All-behind}
-
-abbrev IsCut : Tree → Type 0
-IsCut (Tip leaf) = ⊥
-IsCut (Cut axis value l r) = Unit {0}
+use Rattle.hb_frag.proofs.Facts.CarvedKinds.{HasCuts}
 
 -- what the part is: more than a third, and either at most two thirds or a leaf; its records are in order
 pub record IsEnd (n k : ℕ) (part : Tree × Area) : Type 0 where
@@ -85,7 +82,7 @@ chosen_of n k [] (Tip (Child page)) area full e c = omega (arith, full)
 chosen_of n k (cut ∷ cuts) (Tip (Child page)) area full e c = let h = c.0.heavy in absurd (omega (arith, full, h))
 chosen_of n k [] (Tip (Sibling page)) area full e c = omega (arith, full)
 chosen_of n k (cut ∷ cuts) (Tip (Sibling page)) area full e c = let h = c.0.heavy in absurd (omega (arith, full, h))
-chosen_of n k [] (Cut axis value l r) area full e c = elim e.done [ inl le ↦ le | inr tip ↦ absurd (subst IsCut tip.1 tt) ]
+chosen_of n k [] (Cut axis value l r) area full e c = elim e.done [ inl le ↦ le | inr tip ↦ absurd (subst HasCuts tip.1 tt) ]
 chosen_of n k (cut ∷ cuts) (Cut axis value l r) area full e c = let h = c.0.heavy in absurd (omega (arith, full, h))
 
 pub is_chosen : (n k : ℕ) (path : List Side) (tree : Tree) (area : Area) (part : Tree × Area) (records : List Record) (cuts : List LeafCut) → 6 ≤ n → GoesDown n k path tree area → part_at path tree area ≡ Some part → records ≡ records_in part.0 → AddsCuts n k records [] cuts

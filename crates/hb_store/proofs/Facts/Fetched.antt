@@ -25,7 +25,7 @@ use Rattle.hb_store.specs.Keeps.{StoreKeeps}
 use Rattle.hb_store.specs.Calls.{Fetched}
 use Rattle.hb_store.proofs.Facts.StayingLaws.{was_there}
 pub use Rattle.hb_store.proofs.Facts.StayedDisks.{keeps_read}
-use Rattle.hb_store.specs.Fetching.{FetchesNot, HoldsNot, IsDamagedBy, IsNoPage}
+use Rattle.hb_store.specs.Fetching.{HoldsNot, IsDamagedBy, IsNoPage}
 use Rattle.hb_store.specs.declared.stops.FetchStop.{FetchStop}
 use Rattle.hb_store.specs.declared.stops.FetchStop.TheVariants as fetches
 use Rattle.hb_store.specs.declared.stops.Why.TheVariants.{Rule, Level, Extent}
@@ -64,18 +64,6 @@ pub read_not : {X : Type 0} (result : Result X FetchStop) (told : Option (List �
 read_not (Ok page) told bytes place meta id why read = tt
 read_not (Err stop) None bytes place meta id why read = forgotten meta bytes id stop why
 read_not (Err stop) (Some b) bytes place meta id why read = subst (λ l. HoldsNot meta (Some l) id stop) read why
-
-if_mapped : (told : Option (List ℕ)) (place : List ℕ → List ℕ) (P : List ℕ → Type 0) → IfSome (option_map place told) P → IfSome told (λ b. P (place b))
-if_mapped None place P h = tt
-if_mapped (Some b) place P h = h
-
--- so a page of the file isn't fetched
-pub fetches_not : (meta : Meta) (d : DiskModel) (id : ℕ) (stop : FetchStop) → ¬ (IsNoPage meta id) → HoldsNot meta (option_map (place_bytes meta id) d.told) id stop → FetchesNot meta d id stop
-fetches_not meta d id (fetches.Damaged at (Rule rule)) page holds = (holds.0, inr (holds.1, page, if_mapped d.told (place_bytes meta id) (λ b. IsDamagedBy meta b rule) holds.2))
-fetches_not meta d id (fetches.Damaged at (Level asked found)) page holds = holds
-fetches_not meta d id (fetches.Damaged at (Extent asked found)) page holds = holds
-fetches_not meta d id fetches.ReadFault page holds = page
-fetches_not meta d id fetches.Crowded page holds = page
 
 -- ---- what a store keeps
 

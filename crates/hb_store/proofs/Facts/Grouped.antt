@@ -1,6 +1,5 @@
 -- The group of an operation: which page images it has.
 use Rattle.std.proofs.Common.{◌≡◌, ◌≢◌, ℕ, ◌^◌, ◌<◌, ◌≤◌, Bool, true, false, List, [], ◌∷◌, ◌++◌, length, get_or, All, AllPairs, Option, Some, None, Result, Ok, Err, refl, arith}
-use Rattle.std.specs.Option.{IfSome}
 use Rattle.std.specs.Result.{IfOk, OnOk}
 use Rattle.std.proofs.lemmas.List.{length-append}
 use Rattle.std.proofs.lemmas.List.Elements.{All-append, All-cons, All-head, All-nil, All-tail}
@@ -22,10 +21,6 @@ use Rattle.hb_store.specs.Making.{page_image_needed, page_images_needed}
 pub good_spelled : (meta : Meta) (page : Page) → IsGoodPage meta page → HasSpelling page
 good_spelled meta (Live page) h = h.0
 good_spelled meta (Free next) h = h
-
-pub spelled_in : (o : Option Page) → ((page : Page) → o ≡ Some page → HasSpelling page) → IfSome o HasSpelling
-spelled_in None h = tt
-spelled_in (Some page) h = h page refl
 
 -- ---- the page images that pages of some numbers need
 

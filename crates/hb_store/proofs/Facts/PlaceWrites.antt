@@ -11,8 +11,12 @@ use Rattle.hb_lemmas.proofs.Options.{at_value, some_value, has_value, was_some}
 use Rattle.hb_frag.specs.declared.pages.Page.{Page}
 use Rattle.hb_frag.specs.Grammar.{SpellsPage}
 use Rattle.hb_layout.specs.declared.meta.Meta.{Meta}
-use Rattle.hb_layout.specs.Offsets.{file_size, page_offset}
+use Rattle.hb_layout.specs.Offsets.{file_size, page_offset, log_start, slot_offset}
 use Rattle.hb_store.specs.Opening.{place_bytes}
+use Rattle.hb_layout.proofs.Facts.Parts.{log_within, super_within}
+use Rattle.hb_store.specs.Switching.{TornSwitch}
+use Rattle.hb_disk.proofs.Facts.TornLaws.{Torn-twice, Torn-wider}
+use Rattle.hb_super.specs.Superblocks.{next_turn}
 
 -- places of two pages don't meet
 pub other_place : (meta : Meta) (id at : ℕ) → 1 ≤ id → 1 ≤ at → (id ≡ at → ⊥) → Apart (page_offset meta id) PAGE (page_offset meta at) PAGE
@@ -62,3 +66,13 @@ tore old new at n tells run =
     let was = some_value old.told tells in
     let after = at_value old.told (λ b. (c : List ℕ) × (new.told ≡ Some c) × Torn at n b c) was.0 was.1 run.told in
     record { before = was.0; was = was.1; after = after.0; is = after.1; torn = after.2 }
+
+-- what changes as the next turn begins lies in front of the pages
+pub switch_within : (turn : ℕ) (meta : Meta) (b c : List ℕ) → TornSwitch turn meta b c → Torn 0 (page_offset meta 1) b c
+switch_within turn meta b c torn =
+    let n = page_offset meta 1 in
+    let area = log_within (next_turn turn) 1 meta in
+    let place = super_within (next_turn turn) meta in
+    Torn-twice 0 n b torn.between c
+    (Torn-wider (log_start (next_turn turn) meta) meta.log 0 n b torn.between (omega arith) (omega (arith, area)) torn.area)
+    (Torn-wider (slot_offset (next_turn turn)) 41 0 n torn.between c (omega arith) (omega (arith, place)) torn.place)

@@ -14,11 +14,11 @@ use Rattle.hb_store.specs.Replay.{Replayed, untouched, after_group, MayFollow, r
 use Rattle.hb_layout.specs.Offsets.{file_size}
 use Rattle.hb_store.specs.Opening.{IsPageIn, OpensBy, log_bytes, place_bytes, SpellAll}
 use Rattle.hb_store.specs.Parts.{ArePageImagesOf, Leads}
+use Rattle.std.proofs.lemmas.List.Sums.{fold-append}
 
 -- groups after groups
 pub replay-append : (t : Replayed) (xs ys : List Logged) → replay t (xs ++ ys) ≡ replay (replay t xs) ys
-replay-append t [] ys = refl
-replay-append t (g ∷ xs) ys = replay-append (after_group t g) xs ys
+replay-append t xs ys = fold-append after_group t xs ys
 
 pub MayReplay-append : (t : Replayed) (xs ys : List Logged) → MayReplay t xs → MayReplay (replay t xs) ys → MayReplay t (xs ++ ys)
 MayReplay-append t [] ys front behind = behind

@@ -1,11 +1,18 @@
--- Where no body of a turn stands.
-use Rattle.std.proofs.Common.{◌≡◌, ℕ, ◌+◌, ◌≤◌, List, take, drop, get_or, sym, ap, ◌∙◌, arith}
+-- How long a superblock is, and where no body of a turn stands.
+use Rattle.std.proofs.Common.{◌≡◌, ℕ, ◌+◌, ◌≤◌, List, take, drop, get_or, sym, ap, ◌∙◌, arith, length, refl, ◌∷◌}
 use Rattle.std.proofs.lemmas.List.{get_or-take, get_or-drop}
 use Rattle.hb_disk.proofs.Facts.SyncedLaws.{part_of}
 use Rattle.hb_layout.specs.declared.meta.Meta.{Meta}
 use Rattle.hb_layout.specs.Offsets.{slot_offset}
 use Rattle.hb_super.specs.Superblocks.{body_bytes, next_turn}
 use Rattle.hb_super.specs.Moments.{HasNoBody, HidesNoOther}
+use Rattle.hb_lemmas.specs.Numbers.{big_endian}
+use Rattle.hb_disk.specs.Calls.{open_gate}
+
+-- a superblock's gate and body are 41 bytes
+pub frame_long : (turn : ℕ) (meta : Meta) → length (open_gate ∷ body_bytes turn meta) ≡ 41
+unfolding big_endian
+frame_long turn meta = refl
 
 -- what stands in the place, if anything, is the same
 pub HasNoBody-same : (b c : List ℕ) (turn : ℕ) → take 40 (drop (slot_offset turn + 1) c) ≡ take 40 (drop (slot_offset turn + 1) b) → HasNoBody b turn → HasNoBody c turn

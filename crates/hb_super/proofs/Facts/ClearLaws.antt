@@ -3,7 +3,6 @@ use Rattle.std.proofs.Common.{◌≡◌, ◌⊎◌, inl, inr, ℕ, ◌+◌, ◌�
 use Rattle.hb_outside.specs.Streams.{Rose}
 use Rattle.hb_disk.specs.Model.{DiskModel, IsDisk, Torn}
 use Rattle.hb_disk.specs.Calls.{OnlyReads, IsSynced, Becomes}
-use Rattle.hb_disk.specs.Runs.{Lasts}
 use Rattle.hb_disk.proofs.Facts.TornLaws.{Torn-itself}
 use Rattle.hb_disk.proofs.Facts.BecomesLaws.{Becomes-read}
 use Rattle.hb_disk.proofs.Facts.RunLaws.{OnlyReads-read}
@@ -23,19 +22,9 @@ module _ (turn : ℕ) {T E : Type 0} (old new : DiskModel) where
   cleared_place r is_disk (inl only) = Becomes-read (Torn (slot_offset turn + 1) 40) old new is_disk (Torn-itself (slot_offset turn + 1) 40) only.stays
   cleared_place r is_disk (inr wrote) = wrote.run.became
 
-  -- how long it took
-  pub cleared_later : (r : Result T E) → Clears turn r old new → old.clock ≤ new.clock
-  cleared_later r (inl only) = omega (arith, only.stays.clock)
-  cleared_later r (inr wrote) = wrote.run.later
-
   pub cleared_few : (r : Result T E) → Clears turn r old new → IsSome old.told → new.clock ≤ old.clock + 2
   cleared_few r (inl only) tells = omega (arith, only.stays.clock)
   cleared_few r (inr wrote) tells = wrote.run.few tells
-
-  -- what lasts once it is done
-  pub cleared_lasts : (v : T) → (let r : Result T E = Ok v in Clears turn r old new) → OnlyReads old new ⊎ Lasts new
-  cleared_lasts v (inl only) = inl (OnlyReads-read _ old new only)
-  cleared_lasts v (inr wrote) = inr wrote.lasts
 
   pub cleared_synced : (v : T) (at n : ℕ) → (let r : Result T E = Ok v in Clears turn r old new) → IsSynced old at n → IsSynced new at n
   cleared_synced v at n (inl only) was = IsSynced-reads old new at n (OnlyReads-read _ old new only) was

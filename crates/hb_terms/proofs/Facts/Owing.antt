@@ -19,7 +19,7 @@ use Rattle.hb_frag.proofs.Facts.Points.{way_ends}
 use Rattle.hb_frag.proofs.Facts.Tiles.{first_tells, found_where_held, tiles_areas}
 use Rattle.hb_frag.proofs.Facts.CarvedPages.{carved_room}
 use Rattle.hb_terms.specs.Plans.{IsPlan}
-use Rattle.hb_ops.specs.Owing.{IsOwed, OwesNothing, posted_parent, Posts, LacksRoom, MayPost}
+use Rattle.hb_ops.specs.Owing.{IsOwed, posted_parent, Posts, LacksRoom, MayPost}
 use Rattle.hb_terms.specs.declared.plans.PostPlan.{PostPlan}
 use Rattle.hb_terms.specs.declared.plans.PostPlan.TheVariants.{Nothing, Post, SplitFirst}
 use Rattle.hb_layout.specs.declared.meta.Meta.{Meta}
@@ -33,14 +33,6 @@ owed_there parent child p outer inner above below leaf area h e k w =
     let P : Leaf → Type 0 = λ l. leaf_at parent p ≡ Some (record { leaf = l; area = leaf }) in
     let Q : Leaf → Type 0 = λ l. leaf_at child p ≡ Some (record { leaf = l; area = area }) in
     record { above = subst P e h; below = subst Q w.0 k; other = w.1 }
-
--- the child's leaf at the point names no other page as a sibling
-pub owes_nothing : (parent child : LivePage) (p : List ℕ) (outer : ℕ) (leaf area : Area) (there : Leaf) → leaf_at parent p ≡ Some (record { leaf = Child outer; area = leaf }) → leaf_at child p ≡ Some (record { leaf = there; area = area }) → ((inner : ℕ) → there ≡ Sibling inner → inner ≡ outer) → OwesNothing parent child p
-owes_nothing parent child p outer leaf area there above below named outer' inner leaf' area' o =
-    let names : Child outer ≡ Child outer' = ap (λ (l : Placed). l.leaf) (one_value (leaf_at parent p) (record { leaf = Child outer; area = leaf }) (record { leaf = Child outer'; area = leaf' }) above o.above) in
-    let sibling : there ≡ Sibling inner = ap (λ (l : Placed). l.leaf) (one_value (leaf_at child p) (record { leaf = there; area = area }) (record { leaf = Sibling inner; area = area' }) below o.below) in
-    let same : outer ≡ outer' = cc in
-    o.other (named inner sibling ∙ same)
 
 -- the way to the point ends at the parent's leaf
 pub way_ends_there : (page : LivePage) (p : List ℕ) (leaf : Leaf) (area : Area) → IsArea page.area → WellCut page → Holds page.area p → leaf_at page p ≡ Some (record { leaf = leaf; area = area }) → part_at (way_to p page.frag) page.frag page.area ≡ Some (Tip leaf, area)

@@ -1,14 +1,14 @@
 -- The steps that the words of a step line say are actors.
-use Rattle.std.specs.Prelude.{◌≡◌, ℕ, zero, suc, ◌≤◌, ◌&&◌, ◌==◌, nat_le, List, [], ◌∷◌, ◌++◌, replicate, Option, Some, None, Result, Ok, Err, refl, codes, if◌then◌else◌}
+use Rattle.std.specs.Prelude.{◌≡◌, ℕ, zero, suc, ◌≤◌, ◌==◌, List, [], ◌∷◌, replicate, Option, Some, None, refl, codes, if◌then◌else◌}
 use Rattle.std.proofs.Common.{inl, inr, arith, subst}
 use Rattle.std.specs.List.{AllByRecursion, slice_split}
 use Rattle.std.specs.Str.{bytes_eq}
-use Rattle.std.proofs.lemmas.Bool.Decides.{nat_tests}
 use Rattle.hb_text.specs.Numbers.{number_read}
-use Rattle.hb_text.specs.declared.numbers.NumberFault.{NumberFault}
-use Rattle.hb_text.specs.StepWords.{actor_of, count_number, repeated, steps_of_parts, word_steps, joined_steps, steps_of, session_number, session_of}
+use Rattle.hb_text.specs.StepWords.{actor_of, count_number, repeated, steps_of_parts, word_steps, joined_steps, steps_of, session_of}
 use Rattle.hb_lemmas.proofs.Booleans.{chosen}
 use Rattle.std.proofs.lemmas.Option.{same_Some}
+use Rattle.hb_lemmas.proofs.Lists.{whole}
+use Rattle.hb_text.proofs.Facts.LineLaws.{session_fits}
 
 -- an actor: 1 to 16 the sessions, then the poster, the consolidator and the flusher
 abbrev pub IsActor : ℕ → Type 0
@@ -17,20 +17,9 @@ IsActor a = (1 ≤ a) × (a ≤ 19)
 abbrev pub AreActors : List ℕ → Type 0
 AreActors steps = AllByRecursion IsActor steps
 
-pub all_append : (xs ys : List ℕ) → AreActors xs → AreActors ys → AreActors (xs ++ ys)
-all_append [] ys h k = k
-all_append (x ∷ xs) ys h k = (h.0, all_append xs ys h.1 k)
-
 all_same : (n a : ℕ) → IsActor a → AreActors (replicate n a)
 all_same zero a h = tt
 all_same (suc n) a h = (h, all_same n a h)
-
-session_is_actor : (read : Result ℕ NumberFault) (a : ℕ) → session_number read ≡ Some a → IsActor a
-session_is_actor (Err fault) a e = cc
-session_is_actor (Ok n) a e = elim (chosen (nat_le 1 n && nat_le n 16) (Some n) None (Some a) e) [
-  | inl fits ↦ let same : n ≡ a = same_Some _ _ fits.1 in (grind (arith, nat_tests, fits.0, same), grind (arith, nat_tests, fits.0, same))
-  | inr other ↦ cc (other.1)
-]
 
 word_is_actor : (word : List ℕ) (a : ℕ) → actor_of word ≡ Some a → IsActor a
 word_is_actor word a e =
@@ -42,7 +31,7 @@ word_is_actor word a e =
         | inl p ↦ let same : 18 ≡ a = same_Some _ _ p.1 in (omega (arith, same), omega (arith, same))
         | inr r ↦ elim (chosen (bytes_eq word (codes "f")) (Some 19) (session_of word) (Some a) r.1) [
           | inl p ↦ let same : 19 ≡ a = same_Some _ _ p.1 in (omega (arith, same), omega (arith, same))
-          | inr s ↦ session_is_actor (number_read word) a s.1
+          | inr s ↦ let session = session_fits (number_read word) a s.1 in (session.0, omega (arith, session.1))
         ]
       ]
     ]
@@ -59,7 +48,7 @@ parts_actors (actor ∷ count ∷ []) steps e = repeated_actors (actor_of actor)
 parts_actors (actor ∷ count ∷ more ∷ rest) steps e = cc
 
 joined_actors : (one more : Option (List ℕ)) (steps : List ℕ) → ((s : List ℕ) → one ≡ Some s → AreActors s) → ((s : List ℕ) → more ≡ Some s → AreActors s) → joined_steps one more ≡ Some steps → AreActors steps
-joined_actors (Some one) (Some more) steps f g e = subst AreActors (same_Some _ _ e) (all_append one more (f one refl) (g more refl))
+joined_actors (Some one) (Some more) steps f g e = subst AreActors (same_Some _ _ e) (whole IsActor one more (f one refl) (g more refl))
 joined_actors (Some one) None steps f g e = cc
 joined_actors None more steps f g e = cc
 

@@ -1,6 +1,6 @@
 -- A printed body is of one body alone, and its line is one line.
 use Rattle.std.specs.Prelude.{◌≡◌, ◌≢◌, ℕ, ◌+◌, ◌/◌, ◌%◌, ◌<◌, ◌≤◌, ◌^◌, true, nat_lt, List, [], ◌∷◌, ◌++◌, All, codes, refl}
-use Rattle.std.proofs.Common.{inl, inr, ◌⊎◌, sym, ap, ◌∙◌, arith, subst, append-nil, append_assoc}
+use Rattle.std.proofs.Common.{inl, inr, ◌⊎◌, sym, ap, ◌∙◌, arith, subst, append-nil, append_assoc, ◌≢◌, ℕ}
 use Rattle.std.specs.List.{list_all, flat_map, AllByRecursion}
 use Rattle.std.specs.Char.{is_ascii_digit}
 use Rattle.std.specs.Fmt.{decimal}
@@ -19,6 +19,7 @@ use Rattle.hb_text.specs.Words.{lines_of}
 use Rattle.hb_lemmas.proofs.Booleans.{chosen}
 use Rattle.hb_text.proofs.Facts.NumberLaws.{own}
 use Rattle.hb_text.proofs.Facts.TextLaws.{lines_come_back}
+use Rattle.hb_lemmas.proofs.Lists.{whole}
 
 -- the digits of the numbers below ten stand apart from the others
 abbrev IsDigitOf : ℕ → ℕ → Type 0
@@ -93,14 +94,10 @@ printed_is_visible body fits = elim (chosen (list_all is_visible body) (61 ∷ b
   | inr x ↦ subst (λ (text : List ℕ). AllByRecursion IsVisible text) x.1 ((omega arith, omega arith), digits_visible body fits.fits)
 ]
 
--- no line feed stands in what is visible, in a number, or in both together
+-- no line feed stands in what is visible, and none in a number
 visible_no_feed : (bytes : List ℕ) → AllByRecursion IsVisible bytes → HasNo 10 bytes
 visible_no_feed [] all = tt
 visible_no_feed (c ∷ bytes) all = ((λ (is : c ≡ 10). omega (arith, all.0.0, is)), visible_no_feed bytes all.1)
-
-joined_no_feed : (xs ys : List ℕ) → HasNo 10 xs → HasNo 10 ys → HasNo 10 (xs ++ ys)
-joined_no_feed [] ys none more = more
-joined_no_feed (c ∷ xs) ys none more = (none.0, joined_no_feed xs ys none.1 more)
 
 digits_no_feed : (bytes : List ℕ) → list_all is_ascii_digit bytes ≡ true → HasNo 10 bytes
 digits_no_feed [] all = tt
@@ -115,7 +112,7 @@ number_no_feed n small = digits_no_feed (decimal n) (digits_decimal own n small)
 numbers_no_feed : (ns : List ℕ) → All (λ n. n < 2 ^ 64) ns → HasNo 10 (numbers_text ns)
 numbers_no_feed [] small = tt
 numbers_no_feed (n ∷ ns) small =
-    ((λ (is : 32 ≡ 10). omega (arith, is)), joined_no_feed (decimal n) (numbers_text ns) (number_no_feed n (All-head (λ (x : ℕ). x < 2 ^ 64) n ns small)) (numbers_no_feed ns (All-tail (λ (x : ℕ). x < 2 ^ 64) n ns small)))
+    ((λ (is : 32 ≡ 10). omega (arith, is)), whole (λ (c : ℕ). c ≢ 10) (decimal n) (numbers_text ns) (number_no_feed n (All-head (λ (x : ℕ). x < 2 ^ 64) n ns small)) (numbers_no_feed ns (All-tail (λ (x : ℕ). x < 2 ^ 64) n ns small)))
 
 one_line : (text : List ℕ) → HasNo 10 text → lines_of (text ++ 10 ∷ []) ≡ text ∷ []
 one_line text none = ap lines_of (sym (append-nil (text ++ 10 ∷ []))) ∙ lines_come_back (text ∷ []) (none, tt)
@@ -128,12 +125,12 @@ found_is = (other_byte _ (omega arith), (other_byte _ (omega arith), (other_byte
 
 pub found_is_a_line : (line : ℕ) (body : List ℕ) → line < 2 ^ 64 → IsBody body → lines_of (reply_text line (Found body)) ≡ (decimal line ++ (codes " found " ++ body_text body)) ∷ []
 found_is_a_line line body small fits =
-    let said = joined_no_feed (codes " found ") (body_text body) found_is (visible_no_feed (body_text body) (printed_is_visible body fits)) in
+    let said = whole (λ (c : ℕ). c ≢ 10) (codes " found ") (body_text body) found_is (visible_no_feed (body_text body) (printed_is_visible body fits)) in
     ap lines_of (sym (append_assoc (decimal line) (codes " found " ++ body_text body) (codes "\n")))
-    ∙ one_line (decimal line ++ (codes " found " ++ body_text body)) (joined_no_feed (decimal line) (codes " found " ++ body_text body) (number_no_feed line small) said)
+    ∙ one_line (decimal line ++ (codes " found " ++ body_text body)) (whole (λ (c : ℕ). c ≢ 10) (decimal line) (codes " found " ++ body_text body) (number_no_feed line small) said)
 
 pub record_is_a_line : (r : Record) → IsPoint r.key → IsBody r.body → lines_of (record_text r) ≡ ((43 ∷ numbers_text r.key) ++ codes " " ++ body_text r.body) ∷ []
 record_is_a_line r point body =
     let key : HasNo 10 (43 ∷ numbers_text r.key) = (other_byte 43 (omega arith), numbers_no_feed r.key point.fits) in
-    let front = joined_no_feed (43 ∷ numbers_text r.key) (codes " ") key (other_byte 32 (omega arith), tt) in
-    one_line ((43 ∷ numbers_text r.key) ++ codes " " ++ body_text r.body) (joined_no_feed ((43 ∷ numbers_text r.key) ++ codes " ") (body_text r.body) front (visible_no_feed (body_text r.body) (printed_is_visible r.body body)))
+    let front = whole (λ (c : ℕ). c ≢ 10) (43 ∷ numbers_text r.key) (codes " ") key (other_byte 32 (omega arith), tt) in
+    one_line ((43 ∷ numbers_text r.key) ++ codes " " ++ body_text r.body) (whole (λ (c : ℕ). c ≢ 10) ((43 ∷ numbers_text r.key) ++ codes " ") (body_text r.body) front (visible_no_feed (body_text r.body) (printed_is_visible r.body body)))

@@ -1,5 +1,5 @@
 -- A text that is put from a buffer, and the pieces of a list of items.
-use Rattle.std.proofs.Common.{◌≡◌, ℕ, ◌+◌, ◌<◌, true, false, List, [], ◌∷◌, ◌++◌, length, take, drop, get_or, Option, Result, Ok, Err, refl, ap, subst, sym, ◌∙◌, append-nil, append_assoc}
+use Rattle.std.proofs.Common.{◌≡◌, ℕ, ◌+◌, ◌<◌, true, false, List, [], ◌∷◌, ◌++◌, length, take, drop, get_or, Option, Result, Ok, Err, ap, subst, sym, ◌∙◌, append-nil, append_assoc}
 use Rattle.std.specs.List.{flat_map}
 use Rattle.std.specs.Result.{IsErr}
 use Rattle.std.proofs.lemmas.Bool.{false≢true}
@@ -7,12 +7,8 @@ use Rattle.std.proofs.lemmas.List.{take_more, take-append-drop}
 use Rattle.std.proofs.lemmas.Grind.{flat_map-append}
 use Rattle.hb_outside.specs.Calls.{Counts, Puts, SinkModel}
 use Rattle.hb_outside.specs.Streams.{Appends, AppendsFront}
-use Rattle.hb_outside.proofs.Facts.PutLaws.{Appends-both, Appends-front, Appends-none}
+use Rattle.hb_outside.proofs.Facts.PutLaws.{Appends-both, Appends-front}
 use Rattle.hb_text.specs.Waiting.{Waits, Buffers}
-
--- a text of which nothing was put waits whole
-pub Waits-start : (a : Option (List ℕ)) (text : List ℕ) → Waits a a text text
-Waits-start a text = record { front = []; is_text = refl; is_put = Appends-none a }
 
 -- what is added to the rest is added to the text
 pub Waits-more : {a b : Option (List ℕ)} {waiting text : List ℕ} → Waits a b waiting text → (more : List ℕ) → Waits a b (waiting ++ more) (text ++ more)

@@ -17,7 +17,8 @@ use Rattle.hb_text.specs.Words.{words_of, lines_of, is_empty, is_printable}
 use Rattle.hb_lemmas.proofs.Booleans.{chosen}
 use Rattle.hb_lemmas.proofs.Options.{same_Ok}
 use Rattle.hb_text.proofs.Facts.ReadingLaws.{bound, at_line_ok}
-use Rattle.hb_text.proofs.Facts.ActorLaws.{IsActor, AreActors, all_append, words_actors}
+use Rattle.hb_text.proofs.Facts.ActorLaws.{IsActor, AreActors, words_actors}
+use Rattle.hb_lemmas.proofs.Lists.{whole}
 
 -- the steps of a line: actors, within the schedule, and none where step lines aren't allowed
 record FitsSchedule (allowed : Bool) (taken : ℕ) (steps : List ℕ) : Type 0 where
@@ -105,7 +106,7 @@ module _ (allowed : Bool) where
       let rest = lines_schedule k (taken + length said.0.steps) (number + 1) lines more.0 more.1 in
       let same : said.0.steps ++ more.0.steps ≡ reading.steps = ap (λ (r : Reading). r.steps) (same_Ok _ _ more.2) in
       subst (FitsSchedule allowed taken) same (record {
-        actors = all_append said.0.steps more.0.steps one.actors rest.actors;
+        actors = whole IsActor said.0.steps more.0.steps one.actors rest.actors;
         few = λ h. omega (arith, length-append said.0.steps more.0.steps, rest.few (one.few h));
         none = λ e. ap (λ (s : List ℕ). s ++ more.0.steps) (one.none e) ∙ rest.none e;
       })

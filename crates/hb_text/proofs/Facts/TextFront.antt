@@ -1,5 +1,5 @@
 -- The front of a text that is too long decides what the text says: its first bad line begins within that front.
-use Rattle.std.specs.Prelude.{◌≡◌, ℕ, suc, ◌+◌, ◌*◌, ◌<◌, ◌≤◌, Bool, true, false, nat_lt, List, [], ◌∷◌, ◌++◌, length, Result, Ok, Err, refl}
+use Rattle.std.specs.Prelude.{◌≡◌, ℕ, suc, ◌+◌, ◌*◌, ◌<◌, ◌≤◌, Bool, nat_lt, List, [], ◌∷◌, ◌++◌, length, Result, Ok, Err, refl}
 use Rattle.std.proofs.Common.{zero, inl, inr, sym, ap, ◌∙◌, arith, append-nil}
 use Rattle.std.proofs.lemmas.Bool.Decides.{nat_tests}
 use Rattle.std.proofs.lemmas.Bool.{cond-true, cond-false}
@@ -10,6 +10,7 @@ use Rattle.hb_space.specs.declared.form.TheConstants.{LINE}
 use Rattle.hb_text.specs.Grammar.{line_read, lines_read, at_line, text_read, with_said, Said, Reading}
 use Rattle.hb_text.specs.Words.{◌>>=◌, lines_of, is_empty}
 use Rattle.hb_text.proofs.Facts.FirstLineFeed.{first_of, HasFeed, HasNoFeed, cut}
+use Rattle.hb_text.proofs.Facts.TextLength.{line_bytes}
 
 -- the rule that a line breaks which is longer than all lines that may follow it, by how many may
 abbrev broken_rule : ℕ → TextRule
@@ -33,13 +34,6 @@ module _ (allowed : Bool) where
   line_breaks : (k taken number m : ℕ) (line : List ℕ) → number + m ≡ 1000001 → 257 * m < length line → line_read allowed k taken number line ≡ Err (broken_rule m)
   line_breaks k taken number zero line sum long = too_many k taken number line (omega arith)
   line_breaks k taken number (suc m) line sum long = too_long k taken number line (omega arith) (omega arith)
-
-  short_line : (k taken number : ℕ) (line : List ℕ) (said : Said) → number ≤ 1000000 → line_read allowed k taken number line ≡ Ok said → length line ≤ 256
-  short_line k taken number line said few ok =
-      elim (nat_lt 256 (length line)) as (λ b. nat_lt 256 (length line) ≡ b → length line ≤ 256) [
-        | true ↦ λ long. cc (too_long k taken number line few (grind (arith, nat_tests, long)))
-        | false ↦ λ short. grind (arith, nat_tests, short)
-      ] refl
 
   lines_break : (k taken number m : ℕ) (lines : List (List ℕ)) → number + m ≡ 1000001 → 257 * m < length (first_of lines) → lines_read allowed k taken number lines ≡ Err (record { line = number; rule = broken_rule m })
   unfolding lines_read
@@ -78,7 +72,7 @@ module _ (allowed : Bool) where
   ]
   front_same k taken number (suc m) front rest other sum long = elim (cut front) [
     | inl h ↦ feed_same k taken number front rest other h (λ said ok.
-        front_same k (taken + length said.steps) (number + 1) m h.behind rest other (omega arith) (omega (arith, h.bytes, short_line k taken number h.line said (omega arith) ok)))
+        front_same k (taken + length said.steps) (number + 1) m h.behind rest other (omega arith) (omega (arith, h.bytes, (line_bytes allowed k taken number h.line said ok).1)))
     | inr h ↦ no_feed_same k taken number (suc m) front rest other h sum long
   ]
 

@@ -11,8 +11,9 @@ use Rattle.hb_restart.specs.Creation.{IsLaidOut}
 use Rattle.hb_restart.specs.NewFiles.{lone}
 use Rattle.hb_disk.proofs.Facts.RewriteLaws.{Rewrites-as, Rewrites-torn, Rewrites-weaker}
 use Rattle.hb_disk.proofs.Facts.TornLaws.{Torn-wider}
-use Rattle.hb_restart.proofs.Made.{frame_long, on_ok_three, made_fresh}
+use Rattle.hb_restart.proofs.Made.{on_ok_three, made_fresh}
 use Rattle.hb_restart.proofs.creation.write_file.Goals as goal
+use Rattle.hb_super.proofs.Facts.BodyLaws.{frame_long}
 
 pub lay_out-requires : goal.lay_out-requires
 lay_out-requires g c = record { room = c.requires.room; some = omega arith; most = c.requires.layout.some_pages }
@@ -52,7 +53,7 @@ returns-clause-fresh g c =
     let laid = at_value d.told (λ b. (e : List ℕ) × (one.told ≡ Some e) × IsLaidOut e meta page) before.0 before.1 c.in_ok-lay_out.ensures.laid in
     let fits : file_size meta ≤ length laid.0 = omega (arith, c.requires.room, c.lay_out.ensures.wrote.became.size, is_one.long laid.0 (is_one.as_read laid.0 laid.1)) in
     let closed : get_or laid.0 4096 0 ≢ open_gate = λ opened. let zero_is : get_or laid.0 4096 0 ≡ 0 = laid.2.places.second in let open_is : get_or laid.0 4096 0 ≡ 165 = opened in absurd (omega (arith, zero_is, open_is)) in
-    made_fresh new is_disk meta page laid.0 frame (frame_long meta) fits c.requires.one.1 laid.2
+    made_fresh new is_disk meta page laid.0 frame (frame_long 0 meta) fits c.requires.one.1 laid.2
     (at_value one.told (λ b. new.told ≡ Some (overwritten b 0 (open_gate ∷ body_bytes 0 meta))) laid.0 laid.1 written)
     (at_value one.told (λ b. get_or b 4096 0 ≢ open_gate → IfSome new.told (λ e. IsNewest e 0 meta)) laid.0 laid.1 newest closed)
     durable p spells)

@@ -12,12 +12,13 @@ use Rattle.hb_store.specs.Opening.{place_bytes}
 use Rattle.hb_store.specs.Turning.{IsPlacedTo}
 use Rattle.hb_restart.specs.Renewing.{IsWrittenTo}
 use Rattle.hb_restart.proofs.Renewed.{placed_moments, placed_there, placed_untouched}
-use Rattle.hb_restart.proofs.Facts.Beyond.{beyond_wider, page_within}
+use Rattle.hb_restart.proofs.Facts.Beyond.{beyond_wider}
 use Rattle.hb_restart.proofs.RunsThen.{faults_write, runs_none}
 use Rattle.hb_disk.proofs.Facts.RunLaws.{one_tick}
 use Rattle.hb_restart.proofs.RunSteps.{on_ok_given_so}
 use Rattle.hb_restart.proofs.EachOnce.{between, written_untouched, while_written, written_there}
 use Rattle.hb_restart.proofs.renewal.place_page.Goals as goal
+use Rattle.hb_layout.proofs.Facts.Parts.{page_within}
 
 pub write_page-requires-clause-spelling : goal.write_page-requires-clause-spelling
 write_page-requires-clause-spelling g c = c.requires.renewable.spelled c.args.id c.in-Some.page.now (sym c.in-Some.ensures.value)
@@ -63,7 +64,7 @@ returns-in-Some-clause-run g c =
     let meta = c.args.found.now.meta in
     record {
       beyond = beyond_wider (page_offset meta c.args.id) 4096 (file_size meta) d new
-          (page_within meta c.args.id c.requires.some (let most = c.requires.most in let few = c.requires.renewable.bounded.high in omega (arith, most, few))) c.write_page.ensures.place;
+          (page_within c.args.id meta c.requires.some (let most = c.requires.most in let few = c.requires.renewable.bounded.high in omega (arith, most, few))) c.write_page.ensures.place;
       few = one_tick c.write_page.result d new (g.met.D.Device.is_disk c.args.disk.now) c.write_page.ensures.ticks;
       faults = faults_write d new c.write_page.ensures.faults;
     }

@@ -14,11 +14,11 @@ use Rattle.hb_store.specs.Turning.{StillOpens, IsHere, IsPlaced}
 use Rattle.hb_store.proofs.Facts.Turned.{still_to}
 use Rattle.hb_restart.specs.Renewing.{WritesAll}
 use Rattle.hb_layout.specs.Offsets.{file_size, page_offset}
-use Rattle.hb_restart.proofs.Facts.Beyond.{front_within}
 use Rattle.hb_disk.proofs.Facts.FaultLaws.{not_failed}
 use Rattle.hb_restart.proofs.RunsThen.{runs_as, runs_given_up, runs_then}
 use Rattle.hb_restart.proofs.EachOnce.{behind_all, all_written}
 use Rattle.hb_restart.proofs.renewal.rewrite.Goals as goal
+use Rattle.hb_layout.proofs.Facts.Parts.{front_within}
 
 pub returns-in_err-place_pages-clause-moments : goal.returns-in_err-place_pages-clause-moments
 returns-in_err-place_pages-clause-moments g c = λ said s here.

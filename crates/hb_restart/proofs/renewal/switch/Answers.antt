@@ -14,8 +14,8 @@ use Rattle.hb_store.specs.Turning.{StillOpens, IsPlaced, MayTurn, OpensByEither}
 use Rattle.hb_store.proofs.Facts.Turned.{either_to, still_to}
 use Rattle.hb_restart.proofs.Renewed.{cleared_may, cleared_moments}
 use Rattle.hb_restart.proofs.RunsThen.{clear_synced, runs_clear, runs_given_up, runs_switch, runs_then}
-use Rattle.hb_restart.proofs.Facts.Beyond.{body_within}
 use Rattle.hb_restart.proofs.renewal.switch.Goals as goal
+use Rattle.hb_layout.proofs.Facts.Parts.{super_within}
 
 pub returns-in_err-clear_hidden-clause-moments : goal.returns-in_err-clear_hidden-clause-moments
 returns-in_err-clear_hidden-clause-moments g c = λ said touched s placed.
@@ -75,7 +75,7 @@ returns-in_err-clear_hidden-clause-run g c =
     let d = g.D.Device.model c.args.disk.now in
     let mid = g.D.Device.model c.clear_hidden.new.disk in
     runs_given_up c.clear_hidden.result c.from_residual.result 2 11 n n d mid (ap is_err c.in_err-clear_hidden.was) c.from_residual.ensures.0 (omega arith) (omega arith)
-    (runs_clear c.clear_hidden.result c.turn_after-next.result n d mid (g.met.D.Device.is_disk c.args.disk.now) (body_within c.turn_after-next.result c.args.meta.now) c.clear_hidden.ensures.did)
+    (runs_clear c.clear_hidden.result c.turn_after-next.result n d mid (g.met.D.Device.is_disk c.args.disk.now) (omega (arith, super_within c.turn_after-next.result c.args.meta.now)) c.clear_hidden.ensures.did)
 
 pub returns-clause-run : goal.returns-clause-run
 returns-clause-run g c =
@@ -84,5 +84,5 @@ returns-clause-run g c =
     let mid = g.D.Device.model c.clear_hidden.new.disk in
     let new = g.D.Device.model c.begin_turn.new.disk in
     runs_then 2 9 n d mid new (not_failed c.clear_hidden.result c.in_ok-clear_hidden.field-0 c.in_ok-clear_hidden.was)
-    (runs_clear c.clear_hidden.result c.turn_after-next.result n d mid (g.met.D.Device.is_disk c.args.disk.now) (body_within c.turn_after-next.result c.args.meta.now) c.clear_hidden.ensures.did)
+    (runs_clear c.clear_hidden.result c.turn_after-next.result n d mid (g.met.D.Device.is_disk c.args.disk.now) (omega (arith, super_within c.turn_after-next.result c.args.meta.now)) c.clear_hidden.ensures.did)
     (runs_switch c.begin_turn.result c.args.turn c.args.meta.now mid new (c.begin_turn.ensures.wrote c.args.turn c.turn_after-next.ensures))

@@ -1,14 +1,15 @@
 use Rattle.std.proofs.Common.{Option, refl, subst}
 use Rattle.hb_frag.specs.declared.pages.Page.{Page}
 use Rattle.hb_sound.specs.Told.{GivesPage}
-use Rattle.hb_sound.proofs.KnownPages.{told_knows}
-use Rattle.hb_sound.proofs.ToldPages.{told_fact, told_hole, told_there}
+use Rattle.hb_sound.proofs.ToldPages.{told_hole, told_so, told_there}
 use Rattle.hb_sound.proofs.page_facts.read_fact.Goals as goal
+use Rattle.hb_sound.specs.Facts.{IsFactOf}
+use Rattle.hb_sound.specs.Links.{Knows}
 
 pub returns-in-Some-clause-fact : goal.returns-in-Some-clause-fact
 returns-in-Some-clause-fact g c =
     let Q : Option Page → Type 0 = λ p. GivesPage (g.P.Pages.model c.args.pages.now).told c.args.id p in
-    told_fact (g.P.Pages.model c.args.pages.now).told c.args.id c.args.meta.now c.fact_of.result c.in-Some.page (subst Q c.in-Some.is c.in_ok-page.ensures.gives) c.fact_of.ensures.fact
+    told_so (IsFactOf c.args.meta.now c.fact_of.result) (g.P.Pages.model c.args.pages.now).told c.args.id c.in-Some.page (subst Q c.in-Some.is c.in_ok-page.ensures.gives) c.fact_of.ensures.fact
 
 pub returns-in-Some-clause-there : goal.returns-in-Some-clause-there
 returns-in-Some-clause-there g c =
@@ -23,4 +24,4 @@ returns-in-None-clause-hole g c =
 pub returns-in-Some-clause-knows : goal.returns-in-Some-clause-knows
 returns-in-Some-clause-knows g c =
     let Q : Option Page → Type 0 = λ p. GivesPage (g.P.Pages.model c.args.pages.now).told c.args.id p in
-    told_knows (g.P.Pages.model c.args.pages.now).told c.args.id c.args.facts.now c.fact_of.result c.in-Some.page (subst Q c.in-Some.is c.in_ok-page.ensures.gives) c.fact_of.ensures.knows
+    told_so (Knows c.args.facts.now c.fact_of.result) (g.P.Pages.model c.args.pages.now).told c.args.id c.in-Some.page (subst Q c.in-Some.is c.in_ok-page.ensures.gives) c.fact_of.ensures.knows

@@ -1,15 +1,16 @@
-use Rattle.std.proofs.Common.{◌≡◌, ℕ, ◌≤◌, List, length, get_or, take, Ok, Some, refl, sym, ◌∙◌, arith, rules, subst}
+use Rattle.std.proofs.Common.{◌≡◌, ℕ, ◌≤◌, List, length, get_or, take, Ok, refl, sym, ◌∙◌, arith, rules, subst}
 use Rattle.std.proofs.lemmas.List.{take_all}
 use Rattle.std.proofs.lemmas.List.Elements.{All-get_or}
 use Rattle.hb_space.specs.Boxes.{Area}
 use Rattle.hb_layout.specs.declared.meta.Meta.{Meta}
-use Rattle.hb_ops.specs.Files.{FileState, live_page}
+use Rattle.hb_ops.specs.Files.{FileState}
 use Rattle.hb_core.specs.CoreSeen.{core_seen, core_disk}
 use Rattle.hb_tidy.proofs.ChildrenSeen.{SeesAll, SeesBelow, leaves_begin, leaves_next}
 use Rattle.hb_tidy.proofs.Exits.{not_ok, over_exit, over_value}
 use Rattle.hb_tidy.proofs.Facts.Joined.{over_then}
 use Rattle.hb_tidy.proofs.KnownFiles.{still_known}
 use Rattle.hb_tidy.proofs.OwedJobs.{fit_then}
+use Rattle.hb_tidy.specs.Finding.{HasPage}
 use Rattle.hb_tidy.specs.Looking.{LooksOver}
 use Rattle.hb_tidy.specs.Placing.{HasPlacedChild}
 use Rattle.hb_tidy.proofs.below.look_at_all.Goals as goal
@@ -37,7 +38,7 @@ returns-in_err-look_below g c =
     let d = g.D.Device.model (core_disk c.args.core.now) in
     let mid = g.D.Device.model (core_disk c.loop-leaf.core) in
     let e = g.D.Device.model (core_disk c.look_below.new.core) in
-    let Above : FileState → Type 0 = λ s. live_page s c.args.parent.now.id ≡ Some c.args.parent.now.page in
+    let Above : FileState → Type 0 = HasPage c.args.parent.now.id c.args.parent.now.page in
     let x : ℕ × Area = (c.leaf-item.result.0, c.leaf-item.result.1) in
     let Here = SeesBelow c.args.parent.now.id c.args.parent.now.page x c.loop-leaf.jobs.items c.look_below.new.jobs.items in
     let So = SeesAll c.args.parent.now.id c.args.parent.now.page (take c.loop-leaf.leaf-index c.args.children.now) c.args.jobs.now.items c.loop-leaf.jobs.items in
@@ -54,7 +55,7 @@ loop-leaf-preserved g c =
     let d = g.D.Device.model (core_disk c.args.core.now) in
     let mid = g.D.Device.model (core_disk c.loop-leaf.core) in
     let e = g.D.Device.model (core_disk c.look_below.new.core) in
-    let Above : FileState → Type 0 = λ s. live_page s c.args.parent.now.id ≡ Some c.args.parent.now.page in
+    let Above : FileState → Type 0 = HasPage c.args.parent.now.id c.args.parent.now.page in
     let x : ℕ × Area = (c.leaf-item.result.0, c.leaf-item.result.1) in
     let is : x ≡ get_or c.args.children.now c.loop-leaf.leaf-index x = search rules in
     let Here = SeesBelow c.args.parent.now.id c.args.parent.now.page x c.loop-leaf.jobs.items c.look_below.new.jobs.items in
@@ -72,7 +73,7 @@ returns g c =
     let d = g.D.Device.model (core_disk c.args.core.now) in
     let e = g.D.Device.model (core_disk c.loop-leaf.core) in
     let end : length c.args.children.now ≤ c.loop-leaf.leaf-index = omega arith in
-    let P : List (ℕ × Area) → Type 0 = λ ls. LooksOver {T = Unit {0}} (λ s. live_page s c.args.parent.now.id ≡ Some c.args.parent.now.page) (Ok (tt {0})) (SeesAll c.args.parent.now.id c.args.parent.now.page ls c.args.jobs.now.items c.loop-leaf.jobs.items) d (core_seen c.args.core.now) e (core_seen c.loop-leaf.core) in
+    let P : List (ℕ × Area) → Type 0 = λ ls. LooksOver {T = Unit {0}} (HasPage c.args.parent.now.id c.args.parent.now.page) (Ok (tt {0})) (SeesAll c.args.parent.now.id c.args.parent.now.page ls c.args.jobs.now.items c.loop-leaf.jobs.items) d (core_seen c.args.core.now) e (core_seen c.loop-leaf.core) in
     record {
       looks = subst P (take_all c.loop-leaf.leaf-index c.args.children.now end) c.loop-leaf.invariant.looks;
       fit = c.loop-leaf.invariant.fit;

@@ -1,8 +1,7 @@
-use Rattle.std.proofs.Common.{◌≡◌, All, Ok, Some, take}
-use Rattle.hb_ops.specs.Files.{live_page}
+use Rattle.std.proofs.Common.{◌≡◌, All, Ok, take}
 use Rattle.hb_core.specs.CoreSeen.{core_seen, core_disk}
 use Rattle.hb_core.specs.KeptFits.{JobFits}
-use Rattle.hb_tidy.specs.Finding.{IsTidyBelow}
+use Rattle.hb_tidy.specs.Finding.{HasPage, IsTidyBelow}
 use Rattle.hb_tidy.specs.Going.{MayTidy}
 use Rattle.hb_tidy.specs.Looking.{LooksOver}
 use Rattle.hb_tidy.specs.Owed.{FindsJobs}
@@ -11,7 +10,7 @@ use Rattle.hb_tidy.proofs.below.look_at_all.Given as goal
 -- where no job was made, nothing was found at the leaves so far
 abbrev pub invariant-loop-leaf : goal.invariant-loop-leaf
 invariant-loop-leaf g l = record {
-  looks : LooksOver {T = Unit {0}} (λ s. live_page s l.parent.id ≡ Some l.parent.page) (Ok (tt {0}))
+  looks : LooksOver {T = Unit {0}} (HasPage l.parent.id l.parent.page) (Ok (tt {0}))
       (λ v s. FindsJobs s (All (IsTidyBelow s l.parent.id) (take l.leaf-index l.children)) l.fn.jobs.items l.jobs.items)
       (g.D.Device.model (core_disk l.fn.core)) (core_seen l.fn.core) (g.D.Device.model (core_disk l.core)) (core_seen l.core);
   may : MayTidy (g.D.Device.model (core_disk l.core)) (core_seen l.core);

@@ -1,4 +1,4 @@
-use Rattle.std.proofs.Common.{◌≡◌, All, length, Option, Some, IsSome, Ok, OnOk, sym, ◌∙◌, subst}
+use Rattle.std.proofs.Common.{◌≡◌, All, length, Option, IsSome, Ok, OnOk, sym, ◌∙◌, subst}
 use Rattle.hb_activity.specs.declared.jobs.JobKind.TheVariants.{Post}
 use Rattle.hb_frag.specs.declared.pages.LivePage.{LivePage}
 use Rattle.hb_lemmas.proofs.Options.{at_value, if_value}
@@ -16,6 +16,7 @@ use Rattle.hb_tidy.proofs.KnownFiles.{still_known}
 use Rattle.hb_tidy.proofs.OwedJobs.{added_fit}
 use Rattle.hb_tidy.proofs.PlacedLeaves.{leaf_attributes, stands_there}
 use Rattle.hb_tidy.specs.declared.stops.TidyStop.TheVariants as stops
+use Rattle.hb_tidy.specs.Finding.{HasPage}
 use Rattle.hb_tidy.specs.Looking.{LooksOver, NothingOf}
 use Rattle.hb_tidy.specs.Owed.{HasAdded, IsAtCorner}
 use Rattle.hb_tidy.specs.Placing.{HasPlacedChild}
@@ -25,7 +26,7 @@ pub returns-in_err-seen : goal.returns-in_err-seen
 returns-in_err-seen g c =
     let d = g.D.Device.model (core_disk c.args.core.now) in
     let e = g.D.Device.model (core_disk c.named_page.new.core) in
-    let Above : FileState → Type 0 = λ s. live_page s c.args.parent.now.id ≡ Some c.args.parent.now.page in
+    let Above : FileState → Type 0 = HasPage c.args.parent.now.id c.args.parent.now.page in
     let Was : Option LivePage → FileState → Type 0 = λ page s. live_page s c.args.name ≡ page in
     record {
       looks = over_exit Above c.in_err-seen.field-0.0 c.named_page.result c.from_residual.result Was _ d e (core_seen c.args.core.now) (core_seen c.named_page.new.core) c.in_err-seen.was c.from_residual.ensures.1
@@ -56,7 +57,7 @@ returns-in-Some g c =
     let f = g.D.Device.model (core_disk c.look_into.new.core) in
     let old = core_seen c.args.core.now in
     let mid = core_seen c.named_page.new.core in
-    let Above : FileState → Type 0 = λ s. live_page s c.args.parent.now.id ≡ Some c.args.parent.now.page in
+    let Above : FileState → Type 0 = HasPage c.args.parent.now.id c.args.parent.now.page in
     let Was : Option LivePage → FileState → Type 0 = λ page s. live_page s c.args.name ≡ page in
     let IsThere : Option LivePage → FileState → Type 0 = λ seen s. IsSome seen × (live_page s c.args.name ≡ seen) in
     let seen = over_value NothingOf c.in_ok-seen.seen c.named_page.result Was d e old mid c.in_ok-seen.was c.named_page.ensures.looks in
@@ -79,7 +80,7 @@ returns-in_err-owe_job-in-None g c =
     let e = g.D.Device.model (core_disk c.named_page.new.core) in
     let old = core_seen c.args.core.now in
     let mid = core_seen c.named_page.new.core in
-    let Above : FileState → Type 0 = λ s. live_page s c.args.parent.now.id ≡ Some c.args.parent.now.page in
+    let Above : FileState → Type 0 = HasPage c.args.parent.now.id c.args.parent.now.page in
     let Was : Option LivePage → FileState → Type 0 = λ page s. live_page s c.args.name ≡ page in
     record {
       looks = refused_then Above c.in_ok-seen.seen Was c.from_residual-in_err-owe_job-in-None.result _ d e old mid (g.met.D.Device.is_disk (core_disk c.named_page.new.core)) c.in_ok-seen.ensures.looks.may
@@ -94,7 +95,7 @@ returns-in_ok-owe_job-in-None g c =
     let e = g.D.Device.model (core_disk c.named_page.new.core) in
     let old = core_seen c.args.core.now in
     let mid = core_seen c.named_page.new.core in
-    let Above : FileState → Type 0 = λ s. live_page s c.args.parent.now.id ≡ Some c.args.parent.now.page in
+    let Above : FileState → Type 0 = HasPage c.args.parent.now.id c.args.parent.now.page in
     let Was : Option LivePage → FileState → Type 0 = λ page s. live_page s c.args.name ≡ page in
     let IsThere : Option LivePage → FileState → Type 0 = λ seen s. IsSome seen × (live_page s c.args.name ≡ seen) in
     let seen = over_value NothingOf c.in_ok-seen.seen c.named_page.result Was d e old mid c.in_ok-seen.was c.named_page.ensures.looks in

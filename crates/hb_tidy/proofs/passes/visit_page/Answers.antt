@@ -1,9 +1,9 @@
-use Rattle.std.proofs.Common.{◌≡◌, ℕ, List, [], All, Some, Ok, sym, subst, ◌∙◌}
+use Rattle.std.proofs.Common.{ℕ, List, [], All, Ok, sym, subst, ◌∙◌}
 use Rattle.std.proofs.lemmas.List.Elements.{All-nil}
 use Rattle.hb_activity.specs.declared.jobs.Job.{Job}
 use Rattle.hb_space.specs.Boxes.{Area}
 use Rattle.hb_layout.specs.declared.meta.Meta.{Meta}
-use Rattle.hb_ops.specs.Files.{FileState, live_page}
+use Rattle.hb_ops.specs.Files.{FileState}
 use Rattle.hb_core.specs.CoreSeen.{core_seen, core_disk}
 use Rattle.hb_core.specs.KeptFits.{JobFits}
 use Rattle.hb_tidy.proofs.Belows.{over_refused}
@@ -12,7 +12,7 @@ use Rattle.hb_tidy.proofs.Exits.{over_exit, over_value}
 use Rattle.hb_tidy.proofs.KnownFiles.{still_known}
 use Rattle.hb_tidy.proofs.PassParts.{waits_then}
 use Rattle.hb_tidy.proofs.PlacedLeaves.{leaves_are_placed}
-use Rattle.hb_tidy.specs.Finding.{IsTidyAt}
+use Rattle.hb_tidy.specs.Finding.{HasPage, IsTidyAt}
 use Rattle.hb_tidy.specs.Looking.{LooksOver}
 use Rattle.hb_tidy.specs.Owed.{FindsJobs}
 use Rattle.hb_tidy.specs.Placing.{HasPlacedChild, placed_children}
@@ -20,7 +20,7 @@ use Rattle.hb_tidy.proofs.passes.visit_page.Goals as goal
 
 pub returns-in_err-children : goal.returns-in_err-children
 returns-in_err-children g c =
-    over_refused (λ s. live_page s c.args.parent.now.id ≡ Some c.args.parent.now.page) c.from_residual.result _ (g.D.Device.model (core_disk c.args.core.now)) (core_seen c.args.core.now)
+    over_refused (HasPage c.args.parent.now.id c.args.parent.now.page) c.from_residual.result _ (g.D.Device.model (core_disk c.args.core.now)) (core_seen c.args.core.now)
     (g.met.D.Device.is_disk (core_disk c.args.core.now)) c.requires.may c.from_residual.ensures.1
 
 pub look_at_all-requires : goal.look_at_all-requires
@@ -34,7 +34,7 @@ look_at_all-requires g c =
 
 pub returns-in_err-look_at_all : goal.returns-in_err-look_at_all
 returns-in_err-look_at_all g c =
-    over_exit (λ s. live_page s c.args.parent.now.id ≡ Some c.args.parent.now.page) c.in_err-look_at_all.field-0.0 c.look_at_all.result c.from_residual-in_err-look_at_all.result _ _
+    over_exit (HasPage c.args.parent.now.id c.args.parent.now.page) c.in_err-look_at_all.field-0.0 c.look_at_all.result c.from_residual-in_err-look_at_all.result _ _
     (g.D.Device.model (core_disk c.args.core.now)) (g.D.Device.model (core_disk c.look_at_all.new.core)) (core_seen c.args.core.now) (core_seen c.look_at_all.new.core) c.in_err-look_at_all.was c.from_residual-in_err-look_at_all.ensures.1 c.look_at_all.ensures.looks
 
 pub wait_for_all-requires : goal.wait_for_all-requires
@@ -52,7 +52,7 @@ returns g c =
     let f = g.D.Device.model (core_disk c.wait_for_all.new.core) in
     let old = core_seen c.args.core.now in
     let mid = core_seen c.look_at_all.new.core in
-    let Above : FileState → Type 0 = λ s. live_page s c.args.parent.now.id ≡ Some c.args.parent.now.page in
+    let Above : FileState → Type 0 = HasPage c.args.parent.now.id c.args.parent.now.page in
     let Was : List Job → Type 0 = λ found. LooksOver {T = Unit {0}} Above (Ok (tt {0})) (λ v s. FindsJobs s (IsTidyAt s c.args.parent.now.id) [] found) d old e mid in
     let Begun : List Job → Type 0 = λ first. LooksOver {T = Unit {0}} Above (Ok (tt {0})) (λ v s. FindsJobs s (IsTidyAt s c.args.parent.now.id) first c.look_at_all.new.jobs.items) d old e mid in
     let all = leaves_all c.args.parent.now.id c.args.parent.now.page c.as_slice.result.now _ c.look_at_all.new.jobs.items d e old mid (◌∙◌ {c = placed_children c.args.parent.now.page} c.as_slice.ensures.value c.in_ok-children.ensures.leaves)

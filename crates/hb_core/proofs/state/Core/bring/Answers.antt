@@ -10,9 +10,10 @@ use Rattle.hb_core.specs.Moving.{with_order_of_use, with_store}
 use Rattle.hb_core.specs.CoreSeen.{core_seen}
 use Rattle.hb_core.specs.Working.{Halts, IsWorking}
 use Rattle.hb_core.specs.declared.halts.Halt.{Halt}
-use Rattle.hb_core.proofs.Running.Coming.{failed_test, looks_as, looks_kept, may_be_pinned, may_let_go, none_where, not_crowded, passed, refused}
+use Rattle.hb_core.proofs.Running.Coming.{failed_test, looks_as, looks_kept, may_be_pinned, may_let_go, not_crowded, passed, refused}
 use Rattle.hb_core.proofs.Running.StandsElsewhere.{stands_as}
 use Rattle.hb_core.proofs.state.Core.bring.Goals as goal
+use Rattle.hb_lemmas.proofs.Options.{has_value, none_unless}
 
 pub pin-requires : goal.pin-requires
 pin-requires g c =
@@ -70,7 +71,7 @@ pub returns-in-Err-clause-halts : goal.returns-in-Err-clause-halts
 returns-in-Err-clause-halts g c m may work =
     refused m (g.D.Device.model c.args.self.now.store.disk) (core_seen c.args.self.now) c.args.actor c.requires.actor may work c.in-Some.wanted (sym (c.requires.wanted m may) ∙ c.in-Some.is)
     (g.D.Device.model c.fetch.new.self.disk) _ (seen_as c.fetch.new.self) (uses_of c.fetch.new.self) c.in-Err.stop c.halt_of.result c.halt_of.ensures c.in-Err.ensures.looks c.in-Err.ensures.kept
-    (none_where _ (λ there. false≢true (c.in-Err.ensures.there there).0)) c.in-Err.ensures.why c.in-Err.ensures.sound
+    (none_unless _ (λ x is. false≢true (c.in-Err.ensures.there (has_value _ x is)).0)) c.in-Err.ensures.why c.in-Err.ensures.sound
 
 pub returns-in-Ok-tested-clause-brings : goal.returns-in-Ok-tested-clause-brings
 returns-in-Ok-tested-clause-brings g c = record {

@@ -7,12 +7,12 @@ use Rattle.hb_frag.specs.declared.pages.Page.{Page}
 use Rattle.hb_store.specs.Seen.{seen_as, uses_of}
 use Rattle.hb_core.specs.declared.copies.CopyStop.TheVariants as copies
 use Rattle.hb_core.proofs.Facts.BetweenCalls.{copied_or_not, crowded_said, look_counts, memory_alone, no_crowd, no_fault, not_copied, not_copied_why, ok_never, reads_said, same_err, why_memory}
-use Rattle.hb_core.proofs.Running.Coming.{none_where}
 use Rattle.hb_core.specs.Between.{CopiesPage}
 use Rattle.hb_core.specs.CoreSeen.{core_disk, core_seen}
 use Rattle.hb_core.specs.Machines.{Machine}
 use Rattle.hb_core.specs.Working.{MayStep}
 use Rattle.hb_core.proofs.state.Core.page_copy.Goals as goal
+use Rattle.hb_lemmas.proofs.Options.{has_value, none_unless}
 
 pub copy_here-requires : goal.copy_here-requires
 copy_here-requires g c = c.in-Ok.ensures.fetched.there
@@ -38,7 +38,7 @@ pub returns-in-Err-clause-copies : goal.returns-in-Err-clause-copies
 returns-in-Err-clause-copies g c m step =
     subst (λ (k : _). (new : Machine) × CopiesPage c.args.id (Err c.fails_to_look.result) m new × MayStep (g.D.Device.model k) (core_seen c.fails_to_look.new.self) new) (sym c.fails_to_look.ensures.disk)
     (not_copied (g.D.Device.model (core_disk c.args.self.now)) (g.D.Device.model c.fetch.new.self.disk) (core_seen c.args.self.now) m c.args.id step _ (seen_as c.fetch.new.self) (uses_of c.fetch.new.self) c.in-Err.ensures.looks c.in-Err.ensures.kept c.in-Err.stop c.fails_to_look.result (core_seen c.fails_to_look.new.self) c.fails_to_look.ensures.does c.requires.page
-    (none_where _ (λ there. false≢true (c.in-Err.ensures.there there).0)) c.in-Err.ensures.why c.in-Err.ensures.sound (λ is. c.in-Err.ensures.crowded.0 (ap Err is)))
+    (none_unless _ (λ x is. false≢true (c.in-Err.ensures.there (has_value _ x is)).0)) c.in-Err.ensures.why c.in-Err.ensures.sound (λ is. c.in-Err.ensures.crowded.0 (ap Err is)))
 
 pub returns-in-Err-clause-why : goal.returns-in-Err-clause-why
 returns-in-Err-clause-why g c = not_copied_why _ (core_seen c.fails_to_look.new.self) (core_seen c.args.self.now).store.meta (g.D.Device.model (core_disk c.args.self.now)) c.args.id c.in-Err.stop c.fails_to_look.result c.fails_to_look.ensures.does c.in-Err.ensures.why

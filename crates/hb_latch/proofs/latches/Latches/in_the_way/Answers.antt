@@ -1,6 +1,7 @@
-use Rattle.std.proofs.Common.{◌≡◌, ℕ, Option, None, Some, IfSome, refl, sym, ◌∙◌}
+use Rattle.std.proofs.Common.{sym, ◌∙◌}
 use Rattle.hb_latch.proofs.Conflicts.{named_least, named_nobody, none_named}
 use Rattle.hb_latch.proofs.latches.Latches.in_the_way.Goals as goal
+use Rattle.hb_lemmas.proofs.Options.{if_value}
 
 pub returns-clause-free : goal.returns-clause-free
 returns-clause-free c =
@@ -13,8 +14,4 @@ returns-clause-free c =
 pub returns-clause-least : goal.returns-clause-least
 returns-clause-least c =
     let named = rw c.as_slice.ensures.value at c.in_the_way.ensures in
-    rw (← c.self.view_is) (each c.in_the_way.result (λ other is. named_least c.self.inside.held.items c.args.actor c.args.page c.args.mode other c.self.invariant.rising (sym is ∙ named)))
-  where
-    each : {P : ℕ → Type 0} (r : Option ℕ) → ((other : ℕ) → r ≡ Some other → P other) → IfSome r P
-    each None all = tt
-    each (Some other) all = all other refl
+    rw (← c.self.view_is) (if_value c.in_the_way.result _ (λ other is. named_least c.self.inside.held.items c.args.actor c.args.page c.args.mode other c.self.invariant.rising (sym is ∙ named)))

@@ -10,7 +10,8 @@ use Rattle.hb_frag.specs.Trees.{Tree, Tip, Cut}
 use Rattle.hb_ops.proofs.Facts.PlacedLaws.{sibling_is_leaf}
 use Rattle.hb_space.specs.Boxes.{Area, Cuts, side_below, side_from, volume, volume_between}
 
-some_points : (lo hi : List ℕ) → 0 < volume_between lo hi
+-- a box holds a point
+pub some_points : (lo hi : List ℕ) → 0 < volume_between lo hi
 some_points [] hi = omega arith
 some_points (l ∷ ls) [] = omega arith
 some_points (l ∷ ls) (h ∷ hs) = let first : 0 < h - l + 1 = omega arith in mul-pos first (some_points ls hs)
@@ -28,17 +29,17 @@ fewer_from (l ∷ ls) (h ∷ hs) zero value i above upto = let less : h - value 
 fewer_from (l ∷ ls) (h ∷ hs) (suc axis) value i above upto = let some : 0 < h - l + 1 = omega arith in mul-lt-mul_of_pos_left (fewer_from ls hs axis value (omega arith) above upto) some
 
 -- each side of a cut holds fewer
-below_fewer : (a : Area) (axis value : ℕ) → Cuts a axis value → volume (side_below a axis value) < volume a
+pub below_fewer : (a : Area) (axis value : ℕ) → Cuts a axis value → volume (side_below a axis value) < volume a
 below_fewer a axis value cuts = fewer_below a.lo a.hi axis value cuts.attribute cuts.above_least cuts.up_to_greatest
 
-from_fewer : (a : Area) (axis value : ℕ) → Cuts a axis value → volume (side_from a axis value) < volume a
+pub from_fewer : (a : Area) (axis value : ℕ) → Cuts a axis value → volume (side_from a axis value) < volume a
 from_fewer a axis value cuts = fewer_from a.lo a.hi axis value cuts.attribute cuts.above_least cuts.up_to_greatest
 
 -- so no leaf's box holds more than the tree's
 abbrev NoMore : ℕ → Placed → Type 0
 NoMore n l = volume l.area ≤ n
 
-leaves_no_more : (t : Tree) (a : Area) (n : ℕ) → IsWellCut t a → volume a ≤ n → All (NoMore n) (leaves_of t a)
+pub leaves_no_more : (t : Tree) (a : Area) (n : ℕ) → IsWellCut t a → volume a ≤ n → All (NoMore n) (leaves_of t a)
 leaves_no_more (Tip leaf) a n cut le = All-cons (NoMore n) (record { leaf = leaf; area = a }) [] le (All-nil (NoMore n))
 leaves_no_more (Cut axis value left right) a n cut le =
     let below = below_fewer a axis value cut.0 in
