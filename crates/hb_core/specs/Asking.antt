@@ -111,6 +111,10 @@ HasAskedBox asked area = by asked.test
     by Exactly = area ≡ asked.area
     by Around = Within asked.area area
 
+-- the page has the box that is asked for, where one is
+abbrev pub HasItsBox : Option AskedBox → LivePage → Type 0
+HasItsBox asked page = IfSome asked (λ box. HasAskedBox box page.area)
+
 -- why a page isn't the one that was asked for, by the first test that it fails: it is free, of another level, of another box
 abbrev pub IsNotAsked : Wanted → AskedBox → Page → Why → Type 0
 IsNotAsked wanted asked (Free next) why = why ≡ Rule 2

@@ -25,8 +25,11 @@ pub record AtParent : Type 0 where
   pub known : List ℕ
   pub pair : Option PairHeld
 
+abbrev pub at_parent : Job → ℕ → List ℕ → Option PairHeld → AtParent
+at_parent job parent known pair = record { job = job; parent = parent; known = known; pair = pair }
+
 abbrev pub knows : Job → ℕ → List ℕ → Option PairHeld → Option AtParent
-knows job parent known pair = Some (record { job = job; parent = parent; known = known; pair = pair })
+knows job parent known pair = Some (at_parent job parent known pair)
 
 abbrev pub merging_at : Activity → Option AtParent
 merging_at (at.ConsolidatorScan job parent child) = knows job parent (child ∷ []) None

@@ -39,7 +39,11 @@ FollowMarks n order before [] later = Unit {0}
 FollowMarks n order before (group ∷ rest) [] = ⊥
 FollowMarks n order before (group ∷ rest) (next ∷ later) = (group.mark ≤ length order) × (contents_of before ≡ result_of n (take group.mark order)) × FollowMarks n order next rest later
 
+-- the one group's mark isn't behind the other's
+abbrev pub IsNoLater : Waiting → Waiting → Type 0
+IsNoLater g h = g.mark ≤ h.mark
+
 pub record HasPendingPrefix (n : RecordSet) (m : Machine) (files : Files) : Type 0 where
   pub marks : FollowMarks n m.order files.durable m.store.log.groups files.later
-  pub rising : AllPairs (λ (g : Waiting) (h : Waiting). g.mark ≤ h.mark) m.store.log.groups
+  pub rising : AllPairs IsNoLater m.store.log.groups
   pub settled : All (λ (a : Answered). (place : ℕ) → StandsInOrder m a.line a.reply place → place < settled_count m) m.answered

@@ -5,7 +5,7 @@ use Rattle.hb_set.specs.Order.{Entry}
 use Rattle.hb_set.specs.declared.commands.Reply.{Reply}
 use Rattle.hb_set.specs.declared.scripts.Answered.{Answered}
 use Rattle.hb_activity.specs.declared.activities.Activity.TheVariants as at
-use Rattle.hb_core.specs.KeptOrder.{StandsInOrder, StandsOutside}
+use Rattle.hb_core.specs.KeptOrder.{IsNoLater, StandsInOrder, StandsOutside}
 use Rattle.hb_core.specs.Machines.{Machine}
 
 -- No line stands twice in the order, which is no longer than the script.
@@ -27,5 +27,5 @@ pub record AnswersAreSingle (m : Machine) : Type 0 where
 
 -- The marks of the groups that wait don't fall, and none is behind the order's end.
 pub record MarksRise (m : Machine) : Type 0 where
-  pub rising : AllPairs (λ (g : Waiting) (h : Waiting). g.mark ≤ h.mark) m.store.log.groups
+  pub rising : AllPairs IsNoLater m.store.log.groups
   pub inside : All (λ (g : Waiting). g.mark ≤ length m.order) m.store.log.groups

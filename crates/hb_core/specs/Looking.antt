@@ -1,5 +1,5 @@
 -- What a core looks at for a step, by what its store has in memory.
-use Rattle.std.specs.Prelude.{◌≡◌, ◌≢◌, ℕ, Option, Some, None, IsSome, IfSome, MatchOption}
+use Rattle.std.specs.Prelude.{◌≡◌, ◌≢◌, ℕ, Option, Some, None, IsSome, MatchOption}
 use Rattle.std.specs.Option.{option_and_then}
 use Rattle.hb_activity.specs.declared.activities.Activity.{Activity}
 use Rattle.hb_activity.specs.declared.activities.Activity.TheVariants as at
@@ -10,7 +10,7 @@ use Rattle.hb_frag.specs.declared.pages.Page.{Page}
 use Rattle.hb_frag.specs.declared.pages.Page.TheVariants.{Live, Free}
 use Rattle.hb_store.specs.declared.stops.Why.{Why}
 use Rattle.hb_store.specs.States.{StoreState, in_memory}
-use Rattle.hb_core.specs.Asking.{HasAskedBox, IsNotAsked, asked_box, looked_live}
+use Rattle.hb_core.specs.Asking.{IsNotAsked, asked_box, looked_live, HasItsBox}
 use Rattle.hb_core.specs.Machines.{live_here}
 
 -- the page into which an activity looks is in memory, and can be looked into
@@ -27,7 +27,7 @@ pub record PassesTest (st : StoreState) (activity : Activity) (wanted : Wanted) 
   pub page : LivePage
   pub live : live_here st wanted.page ≡ Some page
   pub level : page.level ≡ wanted.level
-  pub box : IfSome (asked_box activity st) (λ asked. HasAskedBox asked page.area)
+  pub box : HasItsBox (asked_box activity st) page
 
 -- Why the page of a wanted number fails the test of its level and its box. Where no box is asked for, the level alone is tested.
 abbrev pub IsOfOtherLevel : Wanted → Page → Type 0

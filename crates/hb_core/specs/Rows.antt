@@ -1,5 +1,5 @@
 -- The row of each activity, at the page that the step latched.
-use Rattle.std.specs.Prelude.{◌≡◌, ◌⊎◌, ℕ, List, Option, Some, None, MatchOption, IfSome}
+use Rattle.std.specs.Prelude.{◌≡◌, ◌⊎◌, ℕ, List, Option, Some, None, MatchOption}
 use Rattle.hb_frag.specs.declared.pages.LivePage.{LivePage}
 use Rattle.hb_space.specs.declared.records.Record.{Record}
 use Rattle.hb_set.specs.declared.commands.Command.{Command}
@@ -13,7 +13,7 @@ use Rattle.hb_activity.specs.Passing.{PassesOn}
 use Rattle.hb_activity.specs.Sights.{Sight}
 use Rattle.hb_activity.specs.Walks.{goal_of}
 use Rattle.hb_consol.specs.MergeRows.{ConsolidatorRow}
-use Rattle.hb_core.specs.Asking.{HasAskedBox, asked_box}
+use Rattle.hb_core.specs.Asking.{asked_box, HasItsBox}
 use Rattle.hb_core.specs.Machines.{Machine, live_here, sight}
 use Rattle.hb_point.specs.SessionRows.{DoesThere}
 use Rattle.hb_point.specs.SplitRows.{PutsInHalf, SplitsOrFull}
@@ -61,7 +61,7 @@ RowAt at.Flusher s id page deed = ⊥
 pub record IsAtHand (m : Machine) (activity : Activity) (wanted : Wanted) (page : LivePage) : Type 0 where
   pub live : live_here m.store wanted.page ≡ Some page
   pub level : page.level ≡ wanted.level
-  pub box : IfSome (asked_box activity m.store) (λ asked. HasAskedBox asked page.area)
+  pub box : HasItsBox (asked_box activity m.store) page
 
 abbrev pub Row : Activity → Option Wanted → Machine → Deed → Type 0
 Row activity None m deed = RowAlone activity (sight m) deed

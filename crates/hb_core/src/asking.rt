@@ -5,7 +5,7 @@ ghost use Rattle.hb_layout.specs.Limits.{IsLayout};
 ghost use Rattle.hb_ops.specs.Files.{if_live};
 ghost use Rattle.hb_store.specs.declared.stops.Why.TheVariants.{Extent};
 ghost use Rattle.hb_view.specs.Views.{IsLive, IsLiveAnd};
-ghost use Rattle.hb_core.specs.Asking.{HasAskedBox, IsNotAsked, asked_box, box_at, looked_live, looked_page, whole_box};
+ghost use Rattle.hb_core.specs.Asking.{HasAskedBox, IsNotAsked, asked_box, box_at, looked_live, looked_page, whole_box, HasItsBox};
 ghost use Rattle.hb_core.specs.CoreSeen.{core_seen};
 ghost use Rattle.hb_core.specs.Looking.{FailsTest, IsOfOtherLevel, MayLook, PassesTest, wanted_in};
 ghost use Rattle.hb_core.specs.Machines.{live_here};
@@ -163,7 +163,7 @@ fn box_at(view: &PageView<'_>, point: &Point) -> Option<AskedBox>
 /// Tests a page: it is in use, and of the level and the box that are asked for.
 fn test_view(view: &PageView<'_>, wanted: Wanted, asked: Option<AskedBox>) -> Result<(), Why>
     requires many { IfSome (if_live (Some view.now)) (λ page. IfSome asked (λ asked. length asked.area.lo ≡ length page.area.lo)) }
-    ensures passes { OnOk result (IsLiveAnd view.now (λ page. (page.level ≡ wanted.level) × IfSome asked (λ asked. HasAskedBox asked page.area))) }
+    ensures passes { OnOk result (IsLiveAnd view.now (λ page. (page.level ≡ wanted.level) × HasItsBox asked page)) }
     ensures fails { IfErr result (λ why. MatchOption asked (IsOfOtherLevel wanted view.now) (λ asked. IsNotAsked wanted asked view.now why)) }
 {
     if !view.is_live() {
@@ -176,7 +176,7 @@ fn test_view(view: &PageView<'_>, wanted: Wanted, asked: Option<AskedBox>) -> Re
 fn test_page(view: &PageView<'_>, wanted: Wanted, asked: Option<AskedBox>) -> Result<(), Why>
     requires live { IsLive view.now }
     requires many { IfSome (if_live (Some view.now)) (λ page. IfSome asked (λ asked. length asked.area.lo ≡ length page.area.lo)) }
-    ensures passes { OnOk result (IsLiveAnd view.now (λ page. (page.level ≡ wanted.level) × IfSome asked (λ asked. HasAskedBox asked page.area))) }
+    ensures passes { OnOk result (IsLiveAnd view.now (λ page. (page.level ≡ wanted.level) × HasItsBox asked page)) }
     ensures fails { IfErr result (λ why. MatchOption asked (IsOfOtherLevel wanted view.now) (λ asked. IsNotAsked wanted asked view.now why)) }
 {
     let found = view.level();

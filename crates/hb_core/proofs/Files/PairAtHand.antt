@@ -9,7 +9,7 @@ use Rattle.hb_activity.specs.declared.activities.Activity.{Activity}
 use Rattle.hb_activity.specs.declared.activities.Activity.TheVariants as at
 use Rattle.hb_activity.specs.Wanting.{wanted_of}
 use Rattle.hb_core.proofs.Table.MergerMoves.{MergesPair, of_page}
-use Rattle.hb_core.specs.Asking.{HasAskedBox, asked_box, box_of_sibling, looked_live, this_box, wanted_by}
+use Rattle.hb_core.specs.Asking.{HasAskedBox, asked_box, box_of_sibling, looked_live, this_box, wanted_by, HasItsBox}
 use Rattle.hb_core.specs.Machines.{Machine, live_here, with_disk, sight}
 use Rattle.hb_core.specs.Rows.{IsAtHand}
 use Rattle.hb_frag.specs.Leaves.{first_named, siblings_of}
@@ -45,8 +45,8 @@ module _ (m : Machine) (actor : ℕ) (fetched : StoreState) (job : Job) (parent 
   pub gone_box : first_named gone (siblings_of pair.kept) ≡ Some page.area
   gone_box =
       let deciding : Activity = at.ConsolidatorDecide job parent keep gone in
-      let asked : IfSome (asked_box deciding fetched) (λ asked. HasAskedBox asked page.area) = subst (λ (a : Activity). IfSome (asked_box a fetched) (λ asked. HasAskedBox asked page.area)) is hand.box in
-      let kept : IfSome (box_of_sibling (Some pair.kept) gone) (λ asked. HasAskedBox asked page.area) = subst (λ (o : Option LivePage). IfSome (box_of_sibling o gone) (λ asked. HasAskedBox asked page.area)) pair.kept_live asked in
+      let asked : HasItsBox (asked_box deciding fetched) page = subst (λ (a : Activity). HasItsBox (asked_box a fetched) page) is hand.box in
+      let kept : HasItsBox (box_of_sibling (Some pair.kept) gone) page = subst (λ (o : Option LivePage). HasItsBox (box_of_sibling o gone) page) pair.kept_live asked in
       given_box pair.kept gone page.area (first_named gone (siblings_of pair.kept)) refl pair.may.given kept
 
   pub pair_boxes : BoxesMatch (ops.Merge parent keep gone) (live_here fetched parent) (live_here fetched keep) (live_here fetched gone)

@@ -22,7 +22,7 @@ use Rattle.hb_core.specs.KeptFits.{AttributesFit, IsBoxOf, JobFits, LineFits, St
 use Rattle.hb_core.specs.KeptLines.{HasLineBody, MetaWithinLimits}
 use Rattle.hb_core.specs.KeptMachine.{MachineKeeps}
 use Rattle.hb_core.specs.KeptMerges.{NamesKnown, merging_at}
-use Rattle.hb_core.specs.KeptOrder.{FollowMarks, HasLegalOrder, HasPendingPrefix, StandsInOrder, StandsOutside}
+use Rattle.hb_core.specs.KeptOrder.{IsNoLater, FollowMarks, HasLegalOrder, HasPendingPrefix, StandsInOrder, StandsOutside}
 use Rattle.hb_core.specs.KeptPlaces.{AnswersAreSingle, OrderIsShort, RepliesStand}
 use Rattle.hb_core.specs.KeptSearches.{SearchesAreExact}
 use Rattle.hb_search.specs.Searching.{StaysGathering}
@@ -104,9 +104,6 @@ nobodys_kind actor none = elim (cases_Bool (actor == 17)) [
     one n is low high = subst IsActor (sym is) (record { from_1 = low; to_19 = high })
 
 -- ---- what it keeps
-
-abbrev NoLater : Waiting → Waiting → Type 0
-NoLater g h = g.mark ≤ h.mark
 
 module _ (m : Machine) (begun : IsBegun m) where
   -- each actor has nothing in hand
@@ -211,8 +208,8 @@ module _ (m : Machine) (begun : IsBegun m) where
   no_lock : (actor : ℕ) (lock : BoxLock) → lock_of (m.activity actor) ≡ Some lock → ⊥
   no_lock actor lock is = of_each (λ a. lock_of a ≡ Some lock → ⊥) (record { session = λ some. cc; poster = λ some. cc; consolidator = λ some. cc; flusher = λ some. cc }) actor is
 
-  groups_rise : AllPairs NoLater m.store.log.groups
-  groups_rise = subst (λ (l : List Waiting). AllPairs NoLater l) (sym no_group) (pairs_none NoLater)
+  groups_rise : AllPairs IsNoLater m.store.log.groups
+  groups_rise = subst (λ (l : List Waiting). AllPairs IsNoLater l) (sym no_group) (pairs_none IsNoLater)
 
   pub begins : MachineKeeps m
   begins = record {

@@ -6,7 +6,7 @@ use Rattle.hb_ops.specs.declared.operations.Op.{Op}
 use Rattle.hb_core.specs.declared.outcomes.Outcome.{Outcome}
 use Rattle.hb_core.specs.declared.outcomes.Outcome.TheVariants as outcomes
 use Rattle.hb_activity.specs.Deeds.{Deed}
-use Rattle.hb_core.proofs.Orders.PendingKept.{IsBelow}
+use Rattle.hb_core.specs.KeptOrder.{IsNoLater}
 use Rattle.hb_core.proofs.Facts.StepKinds.{FlushesMore, each_kind, ready_kind}
 use Rattle.hb_core.specs.Forcing.{FailsToWrite, ForcesAll, StaysSo}
 use Rattle.hb_core.specs.KeptMachine.{MachineKeeps}
@@ -34,9 +34,9 @@ module _ (m : Machine) (actor : ℕ) (outcome : Outcome) (new : Machine) (marks 
       let long = length-append {A = Entry} m.order more in
       All-weaker (IsInside (length m.order)) (IsInside (length (m.order ++ more))) (λ g low. omega (arith, low, long)) m.store.log.groups marks.inside
 
-  rise_as : (order : List Entry) (groups : List Waiting) → new.order ≡ order → new.store.log.groups ≡ groups → AllPairs IsBelow groups → All (IsInside (length order)) groups → MarksRise new
+  rise_as : (order : List Entry) (groups : List Waiting) → new.order ≡ order → new.store.log.groups ≡ groups → AllPairs IsNoLater groups → All (IsInside (length order)) groups → MarksRise new
   rise_as order groups order_is groups_are rising inside = record {
-    rising = subst (λ (gs : List Waiting). AllPairs IsBelow gs) (sym groups_are) rising;
+    rising = subst (λ (gs : List Waiting). AllPairs IsNoLater gs) (sym groups_are) rising;
     inside = subst (λ (gs : List Waiting). All (IsInside (length new.order)) gs) (sym groups_are) (subst (λ (es : List Entry). All (IsInside (length es)) groups) (sym order_is) inside);
   }
 
@@ -52,7 +52,7 @@ module _ (m : Machine) (actor : ℕ) (outcome : Outcome) (new : Machine) (marks 
   joined more group mark order_is groups_are =
       let long = length-append {A = Entry} m.order more in
       rise_as (m.order ++ more) (m.store.log.groups ++ group ∷ []) order_is groups_are
-      (all_pairs_push IsBelow m.store.log.groups group marks.rising (subst (λ (k : ℕ). All (IsInside k) m.store.log.groups) (sym mark) marks.inside))
+      (all_pairs_push IsNoLater m.store.log.groups group marks.rising (subst (λ (k : ℕ). All (IsInside k) m.store.log.groups) (sym mark) marks.inside))
       (All-push (IsInside (length (m.order ++ more))) m.store.log.groups group (inside_longer more) (omega (arith, mark, long)))
 
   stays : (said : Outcome) → StaysSo m said outcome new → MarksRise new
@@ -63,7 +63,7 @@ module _ (m : Machine) (actor : ℕ) (outcome : Outcome) (new : Machine) (marks 
 
   forces : (said : Outcome) → ForcesAll m said outcome new → MarksRise new
   forces said (inl (says, is)) =
-      rise_as m.order [] (ap (λ (n : Machine). n.order) is) (ap (λ (n : Machine). n.store.log.groups) is) (pairs_none IsBelow) (All-nil (IsInside (length m.order)))
+      rise_as m.order [] (ap (λ (n : Machine). n.order) is) (ap (λ (n : Machine). n.store.log.groups) is) (pairs_none IsNoLater) (All-nil (IsInside (length m.order)))
   forces said (inr badly) = fails badly.1
 
   more_flushed : FlushesMore m outcome new → MarksRise new

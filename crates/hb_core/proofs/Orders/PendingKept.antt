@@ -20,7 +20,7 @@ use Rattle.hb_core.specs.Acting.{MeetsBadPage}
 use Rattle.hb_core.specs.Forcing.{ForcesAll, StaysSo, forced_files}
 use Rattle.hb_core.specs.KeepingLaws.{IsAnsweredInPlace, PrefixStaysPending, SettledStaysSettled}
 use Rattle.hb_core.specs.Keeps.{HasSoundFile}
-use Rattle.hb_core.specs.KeptOrder.{FollowMarks, HasLegalOrder, HasPendingPrefix, StandsInOrder}
+use Rattle.hb_core.specs.KeptOrder.{FollowMarks, IsNoLater, HasLegalOrder, HasPendingPrefix, StandsInOrder}
 use Rattle.hb_core.specs.Machines.{Files, Machine, current_file, settled_count}
 use Rattle.hb_core.specs.Performing.{MayDo, Performs, files_after, given_by, with_effect}
 use Rattle.hb_core.specs.Steps.{StepsTo, Works}
@@ -66,15 +66,12 @@ marks_inside n order before [] later follows = All-nil (λ (g : Waiting). g.mark
 marks_inside n order before (group ∷ rest) [] follows = absurd follows
 marks_inside n order before (group ∷ rest) (next ∷ later) (low, has, follows) = All-cons (λ (g : Waiting). g.mark ≤ length order) group rest low (marks_inside n order next rest later follows)
 
-abbrev pub IsBelow : Waiting → Waiting → Type 0
-IsBelow g h = g.mark ≤ h.mark
-
 -- the oldest mark never falls
 later_mark : (groups : List Waiting) (now then : ℕ) → now ≤ then → mark_of groups now ≤ mark_of groups then
 later_mark [] now then le = le
 later_mark (first ∷ rest) now then le = omega arith
 
-pub next_mark : (first : Waiting) (rest : List Waiting) (now : ℕ) → All (λ (g : Waiting). g.mark ≤ now) (first ∷ rest) → AllPairs IsBelow (first ∷ rest) → first.mark ≤ mark_of rest now
+pub next_mark : (first : Waiting) (rest : List Waiting) (now : ℕ) → All (λ (g : Waiting). g.mark ≤ now) (first ∷ rest) → AllPairs IsNoLater (first ∷ rest) → first.mark ≤ mark_of rest now
 next_mark first [] now low rising = low 0 first (omega arith)
 next_mark first (second ∷ rest) now low rising = rising 0 1 first (omega arith) (omega arith)
 
@@ -86,11 +83,11 @@ joined_mark (first ∷ rest) group now then is = omega arith
 
 pub record KeepsMarks (n : RecordSet) (m new : Machine) (files : Files) : Type 0 where
   pub marks : FollowMarks n new.order files.durable new.store.log.groups files.later
-  pub rising : AllPairs IsBelow new.store.log.groups
+  pub rising : AllPairs IsNoLater new.store.log.groups
   pub rises : settled_count m ≤ settled_count new
 
 module _ (n : RecordSet) (m : Machine) (files : Files) (new : Machine) (files' : Files) (told : m.files ≡ Some files) (told' : new.files ≡ Some files') (sound : HasSoundFile m files) (legal : HasLegalOrder n m files) (pending : HasPendingPrefix n m files) where
-  kept_as : (order : List Entry) (groups : List Waiting) (f : Files) → new.order ≡ order → new.store.log.groups ≡ groups → new.files ≡ Some f → FollowMarks n order f.durable groups f.later → AllPairs IsBelow groups → settled_count m ≤ mark_of groups (length order) → KeepsMarks n m new files'
+  kept_as : (order : List Entry) (groups : List Waiting) (f : Files) → new.order ≡ order → new.store.log.groups ≡ groups → new.files ≡ Some f → FollowMarks n order f.durable groups f.later → AllPairs IsNoLater groups → settled_count m ≤ mark_of groups (length order) → KeepsMarks n m new files'
   kept_as order groups f order_is groups_is files_are follows rising rises =
       let is : f ≡ files' = same_Some f files' (sym files_are ∙ told') in
       record {
@@ -98,7 +95,7 @@ module _ (n : RecordSet) (m : Machine) (files : Files) (new : Machine) (files' :
             subst (λ (x : Files). FollowMarks n new.order x.durable new.store.log.groups x.later) is
             (subst (λ (gs : List Waiting). FollowMarks n new.order f.durable gs f.later) (sym groups_is)
             (subst (λ (es : List Entry). FollowMarks n es f.durable groups f.later) (sym order_is) follows));
-        rising = subst (λ (gs : List Waiting). AllPairs IsBelow gs) (sym groups_is) rising;
+        rising = subst (λ (gs : List Waiting). AllPairs IsNoLater gs) (sym groups_is) rising;
         rises = subst (λ (gs : List Waiting). settled_count m ≤ mark_of gs (length new.order)) (sym groups_is) (subst (λ (es : List Entry). settled_count m ≤ mark_of groups (length es)) (sym order_is) rises);
       }
 
@@ -118,7 +115,7 @@ module _ (n : RecordSet) (m : Machine) (files : Files) (new : Machine) (files' :
   -- the groups are forced, and none waits
   forced : new.order ≡ m.order → new.store.log.groups ≡ [] → new.files ≡ option_map forced_files m.files → KeepsMarks n m new files'
   forced order_is groups_are files_are =
-      kept_as m.order [] (forced_files files) order_is groups_are (files_are ∙ ap (option_map forced_files) told) tt (pairs_none IsBelow) (mark_inside m.store.log.groups (length m.order) low)
+      kept_as m.order [] (forced_files files) order_is groups_are (files_are ∙ ap (option_map forced_files) told) tt (pairs_none IsNoLater) (mark_inside m.store.log.groups (length m.order) low)
 
   -- a group joins those that wait
   joined : (more : List Entry) (group : Waiting) (op : Op) → group.mark ≡ length m.order → new.order ≡ m.order ++ more → new.store.log.groups ≡ m.store.log.groups ++ group ∷ [] → new.files ≡ option_map (with_effect op) m.files → KeepsMarks n m new files'
@@ -131,7 +128,7 @@ module _ (n : RecordSet) (m : Machine) (files : Files) (new : Machine) (files' :
       let below : All (λ (g : Waiting). g.mark ≤ group.mark) m.store.log.groups = subst (λ (k : ℕ). All (λ (g : Waiting). g.mark ≤ k) m.store.log.groups) (sym mark) low in
       kept_as (m.order ++ more) (m.store.log.groups ++ group ∷ []) (with_effect op files) order_is groups_are (files_are ∙ ap (option_map (with_effect op)) told)
       (follows_one_more n (m.order ++ more) files.durable m.store.log.groups files.later group _ sound.each inside has follows)
-      (all_pairs_push IsBelow m.store.log.groups group pending.rising below)
+      (all_pairs_push IsNoLater m.store.log.groups group pending.rising below)
       (joined_mark m.store.log.groups group (length m.order) (length (m.order ++ more)) mark)
 
   module _ (actor : ℕ) (outcome : Outcome) where

@@ -3,9 +3,9 @@ use Rattle.std.proofs.Common.{◌≡◌, ◌⊎◌, inl, inr, ℕ, ◌<◌, ◌�
 use Rattle.std.proofs.lemmas.List.{take_all}
 use Rattle.std.proofs.lemmas.List.Elements.{All-cons, All-nil, All-weaker}
 use Rattle.hb_set.specs.declared.scripts.Answered.{Answered}
-use Rattle.hb_core.proofs.Orders.PendingKept.{IsBelow, marks_inside, next_mark}
+use Rattle.hb_core.proofs.Orders.PendingKept.{marks_inside, next_mark}
 use Rattle.hb_core.specs.KeepingLaws.{FilesHavePrefixes, IsAfterLonger, IsAmongFirst}
-use Rattle.hb_core.specs.KeptOrder.{FollowMarks, StandsInOrder, StandsOutside}
+use Rattle.hb_core.specs.KeptOrder.{IsNoLater, FollowMarks, StandsInOrder, StandsOutside}
 use Rattle.hb_core.specs.Machines.{settled_count}
 use Rattle.hb_ops.specs.Files.{FileState, contents_of, last_of}
 use Rattle.hb_set.specs.Machine.{RecordSet}
@@ -31,7 +31,7 @@ first_file n order low before [] (x ∷ later) follows same result above = absur
 first_file n order low before (group ∷ rest) [] follows same result above = absurd follows
 first_file n order low before (group ∷ rest) (next ∷ later) (inside, has, follows) same result above = record { above = above; inside = inside; contents = has }
 
-later_files : (n : RecordSet) (order : List Entry) (low : ℕ) (before : FileState) (groups : List Waiting) (later : List FileState) → FollowMarks n order before groups later → AllPairs IsBelow groups → length later ≡ length groups
+later_files : (n : RecordSet) (order : List Entry) (low : ℕ) (before : FileState) (groups : List Waiting) (later : List FileState) → FollowMarks n order before groups later → AllPairs IsNoLater groups → length later ≡ length groups
     → result_of n order ≡ contents_of (last_of before later) → low ≤ mark_of groups (length order) → All (HasSome n order low) later
 later_files n order low before [] [] follows rising same result above = All-nil (HasSome n order low)
 later_files n order low before [] (x ∷ later) follows rising same result above = absurd (omega (arith, same))
@@ -42,7 +42,7 @@ later_files n order low before (group ∷ rest) (next ∷ later) (inside, has, f
     let further : low ≤ mark_of rest (length order) = omega (arith, above, rises) in
     let shorter : length later ≡ length rest = omega (arith, same) in
     All-cons (HasSome n order low) next later (mark_of rest (length order), first_file n order low next rest later follows shorter result further)
-    (later_files n order low next rest later follows (pairs_rest IsBelow group rest rising) shorter result further)
+    (later_files n order low next rest later follows (pairs_rest IsNoLater group rest rising) shorter result further)
 
 pub files_have_prefixes : FilesHavePrefixes
 files_have_prefixes n m files sound legal pending =

@@ -41,7 +41,7 @@ use Rattle.hb_core.proofs.Running.Coming.{sound_where_told, told_or_not}
 use Rattle.hb_core.proofs.Running.Looks.{looked_stays}
 use Rattle.hb_core.proofs.Running.StandsElsewhere.{shows_but}
 use Rattle.hb_core.specs.Acting.{Decodes, LacksNeeded, MayNeed, NeedsNumber}
-use Rattle.hb_core.specs.Asking.{AskedBox, HasAskedBox, asked_box, box_at, looked_live, wanted_by, whole_box}
+use Rattle.hb_core.specs.Asking.{AskedBox, asked_box, box_at, looked_live, wanted_by, whole_box, HasItsBox}
 use Rattle.hb_core.specs.Fetching.{Brings, IsBadHead, IsFreeHead, IsWantedPage, MustStay}
 use Rattle.hb_core.specs.Machines.{Files, Machine, current_file, live_here, next_of, next_of_chain, sight, with_disk, with_uses}
 use Rattle.hb_core.specs.Rows.{IsAtHand}
@@ -252,7 +252,7 @@ module _ (m : Machine) (d : DiskModel) (c : RunningCore) (actor : ℕ) (latches 
     hand = λ wanted page is hand. record {
       live = live_then wanted page is hand.live;
       level = hand.level;
-      box = subst (λ (o : Option AskedBox). IfSome o (λ asked. HasAskedBox asked page.area)) (sym (box_by_look c.store st now activity (wanted_by m actor) needs meta_then look_then)) hand.box;
+      box = subst (λ (o : Option AskedBox). HasItsBox o page) (sym (box_by_look c.store st now activity (wanted_by m actor) needs meta_then look_then)) hand.box;
     };
   }
 

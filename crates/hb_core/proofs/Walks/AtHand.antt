@@ -1,5 +1,5 @@
 -- The page that a step latches comes later than those that its actor holds, over every disk. So it is none of them.
-use Rattle.std.proofs.Common.{◌≡◌, ◌≢◌, ◌⊎◌, inl, inr, ℕ, ◌-◌, ◌<◌, Bool, cond, List, [], ◌∷◌, Option, Some, None, IfSome, IsSome, IsTrue, refl, sym, ap, ◌∙◌, subst, arith}
+use Rattle.std.proofs.Common.{◌≡◌, ◌≢◌, ◌⊎◌, inl, inr, ℕ, ◌-◌, ◌<◌, Bool, cond, List, [], ◌∷◌, Option, Some, None, IsSome, IsTrue, refl, sym, ap, ◌∙◌, subst, arith}
 use Rattle.std.specs.List.{Contains, slice_get}
 use Rattle.std.specs.Option.{option_and_then, option_map}
 use Rattle.std.proofs.lemmas.Bool.{ne_eqb}
@@ -31,10 +31,10 @@ use Rattle.hb_core.proofs.Walks.MergesKept.{above_records, place_latched, known_
 use Rattle.hb_ops.proofs.Facts.Volumes.{sibling_fewer}
 use Rattle.hb_core.proofs.Walks.WalksKept.{IsAtParent, parent_latched}
 use Rattle.hb_core.specs.AllowedLaws.{AnyPage}
-use Rattle.hb_core.specs.Asking.{AskedBox, HasAskedBox, asked_box, box_at, box_by_leaf, box_of_place, box_of_sibling, looked_live, this_box, wanted_by}
+use Rattle.hb_core.specs.Asking.{asked_box, box_at, box_by_leaf, box_of_place, box_of_sibling, looked_live, this_box, wanted_by, HasItsBox}
 use Rattle.hb_core.specs.Fetching.{Brings}
 use Rattle.hb_core.specs.KeptMachine.{MachineKeeps}
-use Rattle.hb_core.specs.KeptMerges.{AtParent, PairHeld, merging_at}
+use Rattle.hb_core.specs.KeptMerges.{AtParent, PairHeld, merging_at, at_parent}
 use Rattle.hb_core.specs.MachineLaws.{NoPageIsLatchedTwice, WalksLeadOn}
 use Rattle.hb_core.specs.Machines.{Machine, live_here, with_disk}
 use Rattle.hb_core.specs.Performing.{latches_held, mode_among}
@@ -52,9 +52,6 @@ use Rattle.hb_ops.proofs.Facts.PageNumberLaws.{live_so}
 -- ---- a page that is found of the level and the box by which another one names it
 
 module _ (meta : Meta) (held : LivePage) (good : IsGoodPage meta (Live held)) (page : LivePage) where
-  abbrev HasBox : Option AskedBox → Type 0
-  HasBox asked = IfSome asked (λ asked. HasAskedBox asked page.area)
-
   child_found : (name : ℕ) (area : Area) → Contains (leaves_of held.frag held.area) (placed (Child name) area) → page.level ≡ held.level - 1 → page.level < held.level
   child_found name area among on =
       let above : 0 < held.level = All-contains (BelongsAt held.level) (leaves held.frag) (Child name) good.1.filled.kinds (placed_is_leaf held.frag held.area (placed (Child name) area) among) in
@@ -64,7 +61,7 @@ module _ (meta : Meta) (held : LivePage) (good : IsGoodPage meta (Live held)) (p
   sibling_found name area has on box = inr (on, subst (λ (a : Area). volume a < volume held.area) (sym box) (sibling_fewer held.frag held.area name area good.1.well_cut good.1.filled.own has))
 
   leaf_found : (mode : ℕ → Mode) (leaf : Leaf) (area : Area) (wanted : Wanted) → Contains (leaves_of held.frag held.area) (placed leaf area) → in_mode mode (named_page held.level leaf) ≡ Some wanted → page.level ≡ wanted.level
-      → HasBox (box_by_leaf (placed leaf area)) → IsLater held page
+      → HasItsBox (box_by_leaf (placed leaf area)) page → IsLater held page
   leaf_found mode (Records records) area wanted among wants on box = cc
   leaf_found mode (Child name) area wanted among wants on box =
       inl (child_found name area among (let same : wanted_page name (held.level - 1) (mode (held.level - 1)) ≡ wanted = cc in on ∙ ap (λ (w : Wanted). w.level) (sym same)))
@@ -72,17 +69,17 @@ module _ (meta : Meta) (held : LivePage) (good : IsGoodPage meta (Live held)) (p
       sibling_found name area (leaf_is_sibling (leaves_of held.frag held.area) name area among) (let same : wanted_page name held.level (mode held.level) ≡ wanted = cc in on ∙ ap (λ (w : Wanted). w.level) (sym same)) box
 
   at_leaf : (mode : ℕ → Mode) (p : List ℕ) (wanted : Wanted) (o : Option Placed) → leaf_at held p ≡ o → in_mode mode (option_and_then (λ (l : Placed). named_page held.level l.leaf) o) ≡ Some wanted → page.level ≡ wanted.level
-      → HasBox (option_and_then box_by_leaf o) → IsLater held page
+      → HasItsBox (option_and_then box_by_leaf o) page → IsLater held page
   at_leaf mode p wanted None is wants on box = cc
   at_leaf mode p wanted (Some l) is wants on box = leaf_found mode l.leaf l.area wanted (first_among p (leaves_of held.frag held.area) l is) wants on box
 
   -- the next page of a walk
   walk_found : (mode : ℕ → Mode) (walk_meta : Meta) (id : ℕ) (goal : Option (List ℕ)) (now then : Option LivePage) (wanted : Wanted) → now ≡ Some held → then ≡ Some held → in_mode mode (walk_next goal (Some id) walk_meta now) ≡ Some wanted
-      → page.level ≡ wanted.level → HasBox (box_at then goal) → IsLater held page
+      → page.level ≡ wanted.level → HasItsBox (box_at then goal) page → IsLater held page
   walk_found mode walk_meta id None now then wanted is was wants on box = cc
   walk_found mode walk_meta id (Some p) now then wanted is was wants on box =
       at_leaf mode p wanted (leaf_at held p) refl (subst (λ (o : Option LivePage). in_mode mode (walk_next (Some p) (Some id) walk_meta o) ≡ Some wanted) is wants) on
-      (subst (λ (o : Option LivePage). HasBox (box_at o (Some p))) was box)
+      (subst (λ (o : Option LivePage). HasItsBox (box_at o (Some p)) page) was box)
 
   -- the child of a poster's parent
   only_child : (leaf : Leaf) (area : Area) (wanted : Wanted) → Contains (leaves_of held.frag held.area) (placed leaf area) → in_mode (λ level. Shared) (named_child held.level leaf) ≡ Some wanted → page.level ≡ wanted.level → page.level < held.level
@@ -106,19 +103,19 @@ module _ (meta : Meta) (held : LivePage) (good : IsGoodPage meta (Live held)) (p
       omega (arith, some, level, on)
 
   -- the page to go, by the leaf that is tried, and by the first leaf to it
-  tried_found : (name place : ℕ) (then : Option LivePage) → then ≡ Some held → slice_get (leaves held.frag) place ≡ Some (Sibling name) → page.level ≡ held.level → HasBox (box_of_place then place) → IsLater held page
+  tried_found : (name place : ℕ) (then : Option LivePage) → then ≡ Some held → slice_get (leaves held.frag) place ≡ Some (Sibling name) → page.level ≡ held.level → HasItsBox (box_of_place then place) page → IsLater held page
   tried_found name place then is there on box =
       let at_place = leaf_of_place held.frag held.area place (Sibling name) there in
       let leaf : Sibling name ≡ at_place.0.leaf = sym at_place.2 in
       let among : Contains (leaves_of held.frag held.area) (placed (Sibling name) at_place.0.area) = subst (λ (x : Leaf). Contains (leaves_of held.frag held.area) (placed x at_place.0.area)) (sym leaf) (place_member (leaves_of held.frag held.area) place at_place.0 at_place.1) in
-      let found : HasBox (option_and_then box_by_leaf (Some at_place.0)) = subst (λ (o : Option Placed). HasBox (option_and_then box_by_leaf o)) at_place.1 (subst (λ (o : Option LivePage). HasBox (box_of_place o place)) is box) in
-      let exact : HasBox (box_by_leaf (placed (Sibling name) at_place.0.area)) = subst (λ (x : Leaf). HasBox (box_by_leaf (placed x at_place.0.area))) (sym leaf) found in
+      let found : HasItsBox (option_and_then box_by_leaf (Some at_place.0)) page = subst (λ (o : Option Placed). HasItsBox (option_and_then box_by_leaf o) page) at_place.1 (subst (λ (o : Option LivePage). HasItsBox (box_of_place o place) page) is box) in
+      let exact : HasItsBox (box_by_leaf (placed (Sibling name) at_place.0.area)) page = subst (λ (x : Leaf). HasItsBox (box_by_leaf (placed x at_place.0.area)) page) (sym leaf) found in
       sibling_found name at_place.0.area (leaf_is_sibling (leaves_of held.frag held.area) name at_place.0.area among) on exact
 
-  given_found : (name : ℕ) (then : Option LivePage) → then ≡ Some held → IsSome (first_named name (siblings_of held)) → page.level ≡ held.level → HasBox (box_of_sibling then name) → IsLater held page
-  given_found name then is gave on box = by (first_named name (siblings_of held)) refl gave (subst (λ (o : Option LivePage). HasBox (box_of_sibling o name)) is box)
+  given_found : (name : ℕ) (then : Option LivePage) → then ≡ Some held → IsSome (first_named name (siblings_of held)) → page.level ≡ held.level → HasItsBox (box_of_sibling then name) page → IsLater held page
+  given_found name then is gave on box = by (first_named name (siblings_of held)) refl gave (subst (λ (o : Option LivePage). HasItsBox (box_of_sibling o name) page) is box)
     where
-      by : (o : Option Area) → first_named name (siblings_of held) ≡ o → IsSome o → HasBox (option_map this_box o) → IsLater held page
+      by : (o : Option Area) → first_named name (siblings_of held) ≡ o → IsSome o → HasItsBox (option_map this_box o) page → IsLater held page
       by None found some box = cc
       by (Some area) found some box = sibling_found name area (first_box_among name (siblings_of held) area found) on box
 
@@ -143,11 +140,11 @@ module _ (m : Machine) (actor : ℕ) (fetched : StoreState) (may : IsActor actor
 
   module _ (held : ℕ) (before : LivePage) (wanted : Wanted) (page : LivePage) (live : live_here m.store held ≡ Some before) (there : live_here fetched held ≡ Some before) (on : page.level ≡ wanted.level) where
     goes_on : (id : ℕ) (goal : Option (List ℕ)) (mode : ℕ → Mode) → id ≡ held → in_mode mode (walk_next goal (Some id) m.store.meta (live_here m.store id)) ≡ Some wanted
-        → IfSome (box_at (live_here fetched id) goal) (λ asked. HasAskedBox asked page.area) → IsLater before page
+        → HasItsBox (box_at (live_here fetched id) goal) page → IsLater before page
     goes_on id goal mode same wants box =
         walk_found m.store.meta before (good_here held before live) page mode m.store.meta id goal (live_here m.store id) (live_here fetched id) wanted (ap (live_here m.store) same ∙ live) (ap (live_here fetched) same ∙ there) wants on box
 
-    leads : (activity : Activity) → walk_held activity ≡ Some held → wanted_of activity m.store.meta (looked_live m.store activity) ≡ Some wanted → IfSome (asked_box activity fetched) (λ asked. HasAskedBox asked page.area) → IsLater before page
+    leads : (activity : Activity) → walk_held activity ≡ Some held → wanted_of activity m.store.meta (looked_live m.store activity) ≡ Some wanted → HasItsBox (asked_box activity fetched) page → IsLater before page
     leads (at.SessionWalk line (Some id) rest found) holds wants box = goes_on id (goal_of line.command rest) (session_mode line.command) (same_Some id held holds) wants box
     leads (at.PosterWalk job (Some id)) holds wants box = goes_on id (Some job.point) (job_mode job) (same_Some id held holds) wants box
     leads (at.ConsolidatorWalk job (Some id)) holds wants box = goes_on id (Some job.point) (job_mode job) (same_Some id held holds) wants box
@@ -160,7 +157,7 @@ module _ (m : Machine) (actor : ℕ) (fetched : StoreState) (may : IsActor actor
     Wants activity = wanted_of activity m.store.meta (looked_live m.store activity) ≡ Some wanted
 
     abbrev Found : Activity → Type 0
-    Found activity = IfSome (asked_box activity fetched) (λ asked. HasAskedBox asked page.area)
+    Found activity = HasItsBox (asked_box activity fetched) page
 
     apart : (id : ℕ) (mode : Mode) (before : LivePage) → mode_among id (latches_held m.store (m.activity actor)) ≡ Some mode → live_here m.store id ≡ Some before → IsLater before page → id ≢ wanted.page
     apart id mode before among live later same =
@@ -204,9 +201,6 @@ module _ (m : Machine) (actor : ℕ) (fetched : StoreState) (may : IsActor actor
     off_both : (parent keep : ℕ) (its other : Mode) → parent ≢ wanted.page → keep ≢ wanted.page → mode_among wanted.page (latch_on parent its ∷ latch_on keep other ∷ []) ≡ None
     off_both parent keep its other above beside = off_one parent its wanted.page (latch_on keep other ∷ []) above ∙ off_one keep other wanted.page [] beside
 
-    abbrev at_place : Job → ℕ → List ℕ → Option PairHeld → AtParent
-    at_place job parent known pair = record { job = job; parent = parent; known = known; pair = pair }
-
     abbrev Alone : Activity → Type 0
     Alone activity = (mode_among wanted.page (latches_held m.store activity) ≡ None) ⊎ Promotes activity wanted.page
 
@@ -223,14 +217,14 @@ module _ (m : Machine) (actor : ℕ) (fetched : StoreState) (may : IsActor actor
     alone (at.PosterPromote job parent) is wants box = inr (of_page parent (λ page. page.level) Exclusive (live_here m.store parent) wanted wants).0
     alone (at.ConsolidatorPromote job parent keep gone) is wants box = inr (of_page parent (λ page. page.level) Exclusive (live_here m.store parent) wanted wants).0
     alone (at.ConsolidatorScan job parent child) is wants box =
-        let place = at_place job parent (child ∷ []) None in
+        let place = at_parent job parent (child ∷ []) None in
         let known = known_at m actor keeps.walk_in_space place (ap merging_at is) in
         let named : IsTrue (names_child known.page child) = All-head (λ (id : ℕ). IsTrue (names_child known.page id)) child [] known.names in
         let lower = named_found m.store.meta known.page (good_here parent known.page known.live) page child Shared (live_here m.store parent) wanted known.live named wants hand.level in
         inl (off_one parent Update wanted.page [] (above_it place (ap merging_at is) lower))
     alone (at.ConsolidatorTry job parent keep gone leaf) is wants box =
         let pair : PairHeld = record { keep = keep; gone = gone; leaf = Some leaf } in
-        let place = at_place job parent (keep ∷ gone ∷ []) (Some pair) in
+        let place = at_parent job parent (keep ∷ gone ∷ []) (Some pair) in
         let known = known_at m actor keeps.walk_in_space place (ap merging_at is) in
         let kept = known.pair.page in
         let same = same_Some (wanted_page gone kept.level Shared) wanted (ap (option_map (λ (page : LivePage). wanted_page gone page.level Shared)) (sym known.pair.live) ∙ wants) in
@@ -240,14 +234,14 @@ module _ (m : Machine) (actor : ℕ) (fetched : StoreState) (may : IsActor actor
         let later = tried_found m.store.meta kept (good_here keep kept known.pair.live) page gone leaf (live_here fetched keep) (kept_there place pair kept (ap merging_at is) refl known.pair.live) known.pair.gave on box in
         inl (off_both parent keep Update Shared (above_it place (ap merging_at is) lower) (beside_it place pair kept (ap merging_at is) refl known.pair.live later))
     alone (at.ConsolidatorKeep job parent keep gone) is wants box =
-        let place = at_place job parent (keep ∷ gone ∷ []) None in
+        let place = at_parent job parent (keep ∷ gone ∷ []) None in
         let known = known_at m actor keeps.walk_in_space place (ap merging_at is) in
         let named : IsTrue (names_child known.page keep) = All-head (λ (id : ℕ). IsTrue (names_child known.page id)) keep (gone ∷ []) known.names in
         let lower = named_found m.store.meta known.page (good_here parent known.page known.live) page keep Exclusive (live_here m.store parent) wanted known.live named wants hand.level in
         inl (off_one parent Exclusive wanted.page [] (above_it place (ap merging_at is) lower))
     alone (at.ConsolidatorDecide job parent keep gone) is wants box =
         let pair : PairHeld = record { keep = keep; gone = gone; leaf = None } in
-        let place = at_place job parent (keep ∷ gone ∷ []) (Some pair) in
+        let place = at_parent job parent (keep ∷ gone ∷ []) (Some pair) in
         let known = known_at m actor keeps.walk_in_space place (ap merging_at is) in
         let kept = known.pair.page in
         let named : IsTrue (names_child known.page gone) = All-head (λ (id : ℕ). IsTrue (names_child known.page id)) gone [] (All-tail (λ (id : ℕ). IsTrue (names_child known.page id)) keep (gone ∷ []) known.names) in

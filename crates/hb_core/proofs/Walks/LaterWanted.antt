@@ -25,7 +25,7 @@ use Rattle.hb_core.proofs.Files.AskedPages.{first_among, first_box_among, named_
 use Rattle.hb_ops.proofs.Facts.Volumes.{sibling_fewer}
 use Rattle.hb_core.specs.Asking.{looked_live}
 use Rattle.hb_core.specs.Keeps.{HasSoundFile, LatchesFit, WalksInSpace}
-use Rattle.hb_core.specs.KeptMerges.{AtParent, NamesKnown, PairHeld, merging_at}
+use Rattle.hb_core.specs.KeptMerges.{NamesKnown, PairHeld, merging_at, at_parent}
 use Rattle.hb_core.specs.Machines.{Files, Machine, current_file, live_here}
 use Rattle.hb_core.specs.Performing.{latches_held, mode_among}
 use Rattle.hb_core.specs.WaitingLaws.{ComesLater, Promotes, WantedComesLater, WantsItsOwn}
@@ -149,14 +149,11 @@ module _ (m : Machine) (files : Files) (actor id : ℕ) (mode : Mode) (wanted : 
       })
 
   -- a page that a consolidator's parent names
-  abbrev at_names : Job → ℕ → List ℕ → Option PairHeld → AtParent
-  at_names job parent known pair = record { job = job; parent = parent; known = known; pair = pair }
-
   wanted_is : (name : ℕ) (level : LivePage → ℕ) (its : Mode) (o : Option LivePage) → option_map (λ (page : LivePage). wanted_page name (level page) its) o ≡ Some wanted → name ≡ wanted.page
   wanted_is name level its None wants = cc
   wanted_is name level its (Some page) wants = let same : wanted_page name (level page) its ≡ wanted = cc in ap (λ (w : Wanted). w.page) same
 
-  of_names : (job : Job) (parent : ℕ) (names : List ℕ) (pair : Option PairHeld) (its : Mode) (known : NamesKnown m.store (at_names job parent names pair)) (name : ℕ) → IsNamed known.page name → name ≡ wanted.page
+  of_names : (job : Job) (parent : ℕ) (names : List ℕ) (pair : Option PairHeld) (its : Mode) (known : NamesKnown m.store (at_parent job parent names pair)) (name : ℕ) → IsNamed known.page name → name ≡ wanted.page
       → mode_among id (latch_on parent its ∷ []) ≡ Some mode → Comes
   of_names job parent names pair its known name named is holds =
       let one = named_with_box known.page name named in
@@ -184,19 +181,19 @@ module _ (m : Machine) (files : Files) (actor id : ℕ) (mode : Mode) (wanted : 
   comes (at.PosterPromote job parent) is wants holds = of_promotion parent (live_here m.store parent) (subst (λ (a : Activity). Promotes a parent) (sym is) refl) wants holds
   comes (at.ConsolidatorPromote job parent keep gone) is wants holds = of_promotion parent (live_here m.store parent) (subst (λ (a : Activity). Promotes a parent) (sym is) refl) wants holds
   comes (at.ConsolidatorScan job parent child) is wants holds =
-      let known : NamesKnown m.store (at_names job parent (child ∷ []) None) = known_at m actor walks _ (ap merging_at is) in
+      let known : NamesKnown m.store (at_parent job parent (child ∷ []) None) = known_at m actor walks _ (ap merging_at is) in
       of_names job parent (child ∷ []) None Update known child (All-head (IsNamed known.page) child [] known.names) (wanted_is child (λ page. page.level - 1) Shared (live_here m.store parent) wants) holds
   comes (at.ConsolidatorTry job parent keep gone leaf) is wants holds =
-      let known : NamesKnown m.store (at_names job parent (keep ∷ gone ∷ []) (Some (record { keep = keep; gone = gone; leaf = Some leaf }))) = known_at m actor walks _ (ap merging_at is) in
+      let known : NamesKnown m.store (at_parent job parent (keep ∷ gone ∷ []) (Some (record { keep = keep; gone = gone; leaf = Some leaf }))) = known_at m actor walks _ (ap merging_at is) in
       let goes : gone ≡ wanted.page = wanted_is gone (λ page. page.level) Shared (live_here m.store keep) wants in
       of_both parent keep Update Shared (λ one. of_names job parent (keep ∷ gone ∷ []) _ Update known gone (second_named known.page keep gone known.names) goes one)
       (λ one. inl (subst (λ (q : ℕ). ComesLater (current_file files) q wanted.page) (one_among keep Shared id mode one).0
       (tried_later (current_file files) (file_sound m files has) keep known.pair.page (shown_live m.store (current_file files) has.shown keep known.pair.page known.pair.live) gone wanted.page leaf known.pair.gave goes))) holds
   comes (at.ConsolidatorKeep job parent keep gone) is wants holds =
-      let known : NamesKnown m.store (at_names job parent (keep ∷ gone ∷ []) None) = known_at m actor walks _ (ap merging_at is) in
+      let known : NamesKnown m.store (at_parent job parent (keep ∷ gone ∷ []) None) = known_at m actor walks _ (ap merging_at is) in
       of_names job parent (keep ∷ gone ∷ []) None Exclusive known keep (All-head (IsNamed known.page) keep (gone ∷ []) known.names) (wanted_is keep (λ page. page.level - 1) Exclusive (live_here m.store parent) wants) holds
   comes (at.ConsolidatorDecide job parent keep gone) is wants holds =
-      let known : NamesKnown m.store (at_names job parent (keep ∷ gone ∷ []) (Some (record { keep = keep; gone = gone; leaf = None }))) = known_at m actor walks _ (ap merging_at is) in
+      let known : NamesKnown m.store (at_parent job parent (keep ∷ gone ∷ []) (Some (record { keep = keep; gone = gone; leaf = None }))) = known_at m actor walks _ (ap merging_at is) in
       let goes : gone ≡ wanted.page = wanted_is gone (λ page. page.level - 1) Exclusive (live_here m.store parent) wants in
       of_both parent keep Exclusive Exclusive (λ one. of_names job parent (keep ∷ gone ∷ []) _ Exclusive known gone (second_named known.page keep gone known.names) goes one)
       (λ one. inl (subst (λ (q : ℕ). ComesLater (current_file files) q wanted.page) (one_among keep Exclusive id mode one).0

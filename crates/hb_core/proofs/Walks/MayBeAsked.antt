@@ -43,7 +43,7 @@ use Rattle.hb_core.proofs.Walks.WalkingWorkers.{walk_wants_above}
 use Rattle.hb_core.proofs.Walks.WalksKept.{IsAtParent, parent_latched}
 use Rattle.hb_core.specs.AllowedLaws.{AnyPage}
 use Rattle.hb_core.specs.AskedLaws.{AsksToPut, AsksToSplit, AsksWithParent, ChildrenMayBeAsked, OthersMayBeAsked, PagesAtHandFit, PointsMayBeAsked, PosterWalksMayBeAsked, PutsMayBeAsked, SearchesMayBeAsked, SplitsMayBeAsked, WalksStayInside}
-use Rattle.hb_core.specs.Asking.{AskedBox, HasAskedBox, asked_box, box_at, box_by_leaf, looked_live}
+use Rattle.hb_core.specs.Asking.{asked_box, box_at, box_by_leaf, looked_live, HasItsBox}
 use Rattle.hb_core.specs.Fetching.{Brings}
 use Rattle.hb_core.specs.Keeps.{LacksRoomFor, OneHasRoom}
 use Rattle.hb_core.specs.KeptFits.{CommandFits, IsBoxOf, JobFits, LineFits, StandsAbove, boxes_left, walking_job}
@@ -69,13 +69,10 @@ point_has k activity p in_hand in_work boxes is = cc
 -- ---- a page of the file that has the box by which another one names it
 
 module _ (meta : Meta) (page : LivePage) (good : IsGoodPage meta (Live page)) (p : List ℕ) (many : length p ≡ meta.k) where
-  abbrev IsFound : Option AskedBox → Type 0
-  IsFound asked = IfSome asked (λ asked. HasAskedBox asked page.area)
-
   whole_has : (k : ℕ) → k ≡ meta.k → IsPoint p → page.area ≡ whole_area k → Holds page.area p
   whole_has k is point box = subst (λ (a : Area). Holds a p) (sym box) (Holds-whole_area k p point (many ∙ sym is))
 
-  on_leaf : (leaf : Leaf) (area : Area) (level : ℕ) (mode : ℕ → Mode) (wanted : Wanted) → Holds area p → in_mode mode (named_page level leaf) ≡ Some wanted → IsFound (box_by_leaf (placed leaf area)) → Holds page.area p
+  on_leaf : (leaf : Leaf) (area : Area) (level : ℕ) (mode : ℕ → Mode) (wanted : Wanted) → Holds area p → in_mode mode (named_page level leaf) ≡ Some wanted → HasItsBox (box_by_leaf (placed leaf area)) page → Holds page.area p
   on_leaf (Records records) area level mode wanted has wants box = cc
   on_leaf (Child name) area level mode wanted has wants box = holds_within area page.area p (sym has.same ∙ many ∙ sym good.1.fits.attributes) box has
   on_leaf (Sibling name) area level mode wanted has wants box = subst (λ (a : Area). Holds a p) (sym box) has
@@ -84,23 +81,23 @@ module _ (meta : Meta) (page : LivePage) (good : IsGoodPage meta (Live page)) (p
     leaf_has : (l : Placed) → leaf_at before p ≡ Some l → Holds l.area p
     leaf_has l there = ((first_tells before.frag before.area p l was_good.0.fits.1 was_good.1.well_cut).0 there).1
 
-    at_leaf : (o : Option Placed) (mode : ℕ → Mode) (wanted : Wanted) → leaf_at before p ≡ o → in_mode mode (option_and_then (λ (l : Placed). named_page before.level l.leaf) o) ≡ Some wanted → IsFound (option_and_then box_by_leaf o) → Holds page.area p
+    at_leaf : (o : Option Placed) (mode : ℕ → Mode) (wanted : Wanted) → leaf_at before p ≡ o → in_mode mode (option_and_then (λ (l : Placed). named_page before.level l.leaf) o) ≡ Some wanted → HasItsBox (option_and_then box_by_leaf o) page → Holds page.area p
     at_leaf None mode wanted is wants box = cc
     at_leaf (Some l) mode wanted is wants box = on_leaf l.leaf l.area before.level mode wanted (leaf_has l is) wants box
 
     onward : (walk_meta : Meta) (id : ℕ) (goal : Option (List ℕ)) (mode : ℕ → Mode) (wanted : Wanted) (now then : Option LivePage) → goal ≡ Some p → now ≡ Some before → then ≡ Some before
-        → in_mode mode (walk_next goal (Some id) walk_meta now) ≡ Some wanted → IsFound (box_at then goal) → Holds page.area p
+        → in_mode mode (walk_next goal (Some id) walk_meta now) ≡ Some wanted → HasItsBox (box_at then goal) page → Holds page.area p
     onward walk_meta id goal mode wanted now then goal_is is was wants box =
         let at_goal = subst (λ (g : Option (List ℕ)). in_mode mode (walk_next g (Some id) walk_meta now) ≡ Some wanted) goal_is wants in
         let wants_at = subst (λ (o : Option LivePage). in_mode mode (walk_next (Some p) (Some id) walk_meta o) ≡ Some wanted) is at_goal in
-        let box_there : IsFound (box_at (Some before) (Some p)) = subst (λ (o : Option LivePage). IsFound (box_at o (Some p))) was (subst (λ (g : Option (List ℕ)). IsFound (box_at then g)) goal_is box) in
+        let box_there : HasItsBox (box_at (Some before) (Some p)) page = subst (λ (o : Option LivePage). HasItsBox (box_at o (Some p)) page) was (subst (λ (g : Option (List ℕ)). HasItsBox (box_at then g) page) goal_is box) in
         at_leaf (leaf_at before p) mode wanted refl wants_at box_there
 
     -- the child that a poster's parent names
-    below : (over : Option LivePage) (child : ℕ) (area : Area) → over ≡ Some before → leaf_at before p ≡ Some (record { leaf = Child child; area = area }) → IsFound (box_at over (Some p)) → Holds page.area p
+    below : (over : Option LivePage) (child : ℕ) (area : Area) → over ≡ Some before → leaf_at before p ≡ Some (record { leaf = Child child; area = area }) → HasItsBox (box_at over (Some p)) page → Holds page.area p
     below over child area is there box =
-        let at_parent : IsFound (option_and_then box_by_leaf (leaf_at before p)) = subst (λ (o : Option LivePage). IsFound (box_at o (Some p))) is box in
-        let named : IsFound (box_by_leaf (placed (Child child) area)) = subst (λ (o : Option Placed). IsFound (option_and_then box_by_leaf o)) there at_parent in
+        let at_parent : HasItsBox (option_and_then box_by_leaf (leaf_at before p)) page = subst (λ (o : Option LivePage). HasItsBox (box_at o (Some p)) page) is box in
+        let named : HasItsBox (box_by_leaf (placed (Child child) area)) page = subst (λ (o : Option Placed). HasItsBox (option_and_then box_by_leaf o) page) there at_parent in
         let has : Holds area p = leaf_has (record { leaf = Child child; area = area }) there in
         holds_within area page.area p (sym has.same ∙ many ∙ sym good.1.fits.attributes) named has
 
@@ -128,12 +125,12 @@ module _ (m : Machine) (actor : ℕ) (fetched : StoreState) (may : IsActor actor
     at_root box = whole_has m.store.meta page good p many fetched.meta.k (ap (λ (s : StoreState). s.meta.k) brings.rest) point box
 
     goes_on : (id : ℕ) (goal : Option (List ℕ)) (mode : ℕ → Mode) → StaysHeld id → goal ≡ Some p → in_mode mode (walk_next goal (Some id) m.store.meta (live_here m.store id)) ≡ Some wanted
-        → IfSome (box_at (live_here fetched id) goal) (λ asked. HasAskedBox asked page.area) → Holds page.area p
+        → HasItsBox (box_at (live_here fetched id) goal) page → Holds page.area p
     goes_on id goal mode stays is wants box =
         onward m.store.meta page good p many stays.before (good_here m actor fetched may keeps brings id stays.before stays.live) m.store.meta id goal mode wanted (live_here m.store id) (live_here fetched id) is stays.live stays.there wants box
 
     inside : (activity : Activity) → ((id : ℕ) → walk_held activity ≡ Some id → StaysHeld id) → walk_point activity ≡ Some p → wanted_of activity m.store.meta (looked_live m.store activity) ≡ Some wanted
-        → IfSome (asked_box activity fetched) (λ asked. HasAskedBox asked page.area) → Holds page.area p
+        → HasItsBox (asked_box activity fetched) page → Holds page.area p
     inside (at.SessionWalk line None rest found) stays is wants box = at_root box
     inside (at.SessionWalk line (Some id) rest found) stays is wants box = goes_on id (goal_of line.command rest) (session_mode line.command) (stays id refl) is wants box
     inside (at.PosterWalk job None) stays is wants box = at_root box
@@ -245,7 +242,7 @@ module _ (m : Machine) (actor : ℕ) (fetched : StoreState) (may : IsActor actor
     level : over.level ≡ job.level
     both : LooksBelow m.store.meta job over page
 
-  has_both : IsAtParent (m.activity actor) job parent → IfSome (box_at (live_here fetched parent) (Some job.point)) (λ asked. HasAskedBox asked page.area) → HasBoth
+  has_both : IsAtParent (m.activity actor) job parent → HasItsBox (box_at (live_here fetched parent) (Some job.point)) page → HasBoth
   has_both stands box = by (keeps.walk_in_space.parents actor job parent stands)
     where
       by : (over : LivePage) × (live_here m.store parent ≡ Some over) × (over.level ≡ job.level) × LeadsBelow over job → HasBoth
@@ -272,10 +269,10 @@ children_may_be_asked m actor fetched job parent wanted page may keeps brings st
   where
     by : (m.activity actor ≡ at.PosterChild job parent) ⊎ (m.activity actor ≡ at.PosterAgain job parent) → AsksWithParent m actor fetched parent page
     by (inl is) =
-        let has = has_both m actor fetched may keeps brings job parent wanted page hand.live (inl is) (subst (λ (a : Activity). IfSome (asked_box a fetched) (λ asked. HasAskedBox asked page.area)) is hand.box) in
+        let has = has_both m actor fetched may keeps brings job parent wanted page hand.live (inl is) (subst (λ (a : Activity). HasItsBox (asked_box a fetched) page) is hand.box) in
         record { over = has.over; live = has.there; may = subst (λ (a : Activity). MayBeAsked a m.store.meta page (Some has.over)) (sym is) has.both }
     by (inr is) =
-        let has = has_both m actor fetched may keeps brings job parent wanted page hand.live (inr (inr is)) (subst (λ (a : Activity). IfSome (asked_box a fetched) (λ asked. HasAskedBox asked page.area)) is hand.box) in
+        let has = has_both m actor fetched may keeps brings job parent wanted page hand.live (inr (inr is)) (subst (λ (a : Activity). HasItsBox (asked_box a fetched) page) is hand.box) in
         record { over = has.over; live = has.there; may = subst (λ (a : Activity). MayBeAsked a m.store.meta page (Some has.over)) (sym is) (record { level = has.level; both = has.both }) }
 
 pub others_may_be_asked : OthersMayBeAsked
