@@ -4,13 +4,11 @@ use Rattle.hb_activity.proofs.Facts.AllowedDeeds.{Shows, none_shown, one_shown}
 use Rattle.hb_activity.specs.declared.jobs.Job.{Job}
 use Rattle.hb_activity.specs.Deeds.{Deed}
 use Rattle.hb_activity.specs.Sights.{Sight}
-use Rattle.hb_ops.proofs.Facts.NamedChildren.{named_leaf}
-use Rattle.hb_consol.specs.Laws.{ArePagesToMerge, MergesAreAllowed}
+use Rattle.hb_consol.specs.Laws.{MergesAreAllowed}
 use Rattle.hb_consol.specs.MergeRows.{DoesMerge}
-use Rattle.hb_frag.specs.Leaves.{leaves}
 use Rattle.hb_frag.specs.Rules.{capacity_of}
 use Rattle.hb_frag.specs.declared.pages.LivePage.{LivePage}
-use Rattle.hb_ops.specs.Merging.{FitsMerge, MayMerge}
+use Rattle.hb_ops.specs.Merging.{ArePagesToMerge, FitsMerge, MayMerge}
 use Rattle.hb_ops.specs.Operations.{IsAllowedOn}
 use Rattle.hb_ops.specs.declared.operations.Op.{Op}
 use Rattle.hb_ops.specs.declared.operations.Op.TheVariants as ops
@@ -25,18 +23,10 @@ module _ (s : Sight) (job : Job) (parent keep gone : ℕ) (above kept page : Liv
   -- both children are of one level
   fits : MayMerge above kept gone page (capacity_of page.level s.meta.dcap s.meta.icap) → 0 < s.meta.live → FitsMerge s.meta parent keep gone above kept page
   fits may live =
-      let level : page.level ≡ kept.level = let a = hand.kept_level in let b = hand.page_level in omega (arith, a, b) in
+      let level : page.level ≡ kept.level = let a = hand.kept_level in let b = hand.gone_level in omega (arith, a, b) in
       record {
-        others = hand.others;
-        two = hand.two;
+        pages = hand;
         some_live = omega (arith, live);
-        above_made = hand.above_made;
-        kept_made = hand.kept_made;
-        gone_made = hand.page_made;
-        kept_level = hand.kept_level;
-        gone_level = hand.page_level;
-        names_kept = named_leaf keep (leaves above.frag) hand.names_kept;
-        names_gone = named_leaf gone (leaves above.frag) hand.names_gone;
         may = subst (λ (n : ℕ). MayMerge above kept gone page (capacity_of n s.meta.dcap s.meta.icap)) level may;
       }
 

@@ -1,5 +1,5 @@
 -- What follows of these rows.
-use Rattle.std.specs.Prelude.{◌≡◌, ◌≢◌, ℕ, ◌+◌, ◌≤◌, Some, IsTrue}
+use Rattle.std.specs.Prelude.{◌≡◌, ℕ, ◌≤◌, Some, IsTrue}
 use Rattle.std.specs.List.{slice_get}
 use Rattle.hb_frag.specs.declared.leaves.Leaf.TheVariants.{Sibling}
 use Rattle.hb_frag.specs.declared.pages.LivePage.{LivePage}
@@ -7,10 +7,9 @@ use Rattle.hb_frag.specs.Leaves.{leaves}
 use Rattle.hb_activity.specs.declared.jobs.Job.{Job}
 use Rattle.hb_activity.specs.Deeds.{Deed}
 use Rattle.hb_activity.specs.Sights.{Sight}
-use Rattle.hb_layout.specs.declared.meta.Meta.{Meta}
+use Rattle.hb_ops.specs.Merging.{ArePagesToMerge}
 use Rattle.hb_ops.specs.declared.operations.Op.{Op}
 use Rattle.hb_ops.specs.Operations.{IsAllowedOn}
-use Rattle.hb_ops.specs.Sound.{FitsFile}
 use Rattle.hb_consol.specs.ConsolidatorRows.{names_child, pair_from}
 use Rattle.hb_consol.specs.MergeRows.{Decides}
 
@@ -24,20 +23,7 @@ pub record IsPair (parent keep : LivePage) (from gone place : ℕ) : Type 0 wher
 abbrev pub PairsAreNamed : Type 0
 PairsAreNamed = (parent keep : LivePage) (from gone place : ℕ) → pair_from parent keep from ≡ Some (gone, place) → IsPair parent keep from gone place
 
--- What a row is given where the consolidator decides: three pages of different numbers that keep the rules of a page alone, the
--- parent one level above the two others and naming both.
-pub record ArePagesToMerge (meta : Meta) (parent keep gone : ℕ) (above kept page : LivePage) : Type 0 where
-  pub others : (parent ≢ keep) × (parent ≢ gone)
-  pub two : keep ≢ gone
-  pub above_made : FitsFile meta above
-  pub kept_made : FitsFile meta kept
-  pub page_made : FitsFile meta page
-  pub kept_level : kept.level + 1 ≡ above.level
-  pub page_level : page.level + 1 ≡ above.level
-  pub names_kept : IsTrue (names_child above keep)
-  pub names_gone : IsTrue (names_child above gone)
-
--- The merge is allowed.
+-- A merge that is decided is allowed, where the row is given pages to merge.
 abbrev pub MergesAreAllowed : Type 0
 MergesAreAllowed = (s : Sight) (job : Job) (parent keep gone : ℕ) (page : LivePage) (deed : Deed) (op : Op) (row : Decides s job parent keep gone page deed) →
     ArePagesToMerge s.meta parent keep gone row.has.above row.has.kept page → deed.op ≡ Some op → IsAllowedOn op s.meta (Some row.has.above) (Some row.has.kept) (Some page)

@@ -7,6 +7,7 @@ pub mod BroughtSteps
 pub mod FlushedSteps
 pub mod ChainOfInsert
 pub mod ChainOfTwoParts
+pub mod SplitPages
 pub mod SplitRows
 pub mod ChainOfTwo
 pub mod ChainOfPosting

@@ -1,25 +1,20 @@
 -- Which page a step asks for, and what it tests of that page before it latches it.
-use Rattle.std.specs.Prelude.{◌≡◌, ◌≢◌, ℕ, List, slice_get, Option, Some, None, IfSome, IsSomeAnd}
+use Rattle.std.specs.Prelude.{ℕ, List, slice_get, Option, Some, None, IfSome, IsSomeAnd}
 use Rattle.std.specs.Option.{option_and_then, option_map}
 use Rattle.hb_frag.specs.declared.leaves.Leaf.TheVariants.{Records, Child, Sibling}
 use Rattle.hb_frag.specs.declared.pages.LivePage.{LivePage}
-use Rattle.hb_frag.specs.declared.pages.Page.{Page}
-use Rattle.hb_frag.specs.declared.pages.Page.TheVariants.{Live, Free}
 use Rattle.hb_activity.specs.declared.wanting.Wanted.{Wanted}
 use Rattle.hb_activity.specs.declared.activities.Activity.{Activity}
 use Rattle.hb_activity.specs.declared.activities.Activity.TheVariants.{PosterChild, PosterPromote, PosterAgain, ConsolidatorScan, ConsolidatorTry, ConsolidatorPromote, ConsolidatorKeep, ConsolidatorDecide}
-use Rattle.hb_store.specs.declared.stops.Why.{Why}
-use Rattle.hb_store.specs.declared.stops.Why.TheVariants.{Rule, Level, Extent}
 use Rattle.hb_activity.specs.Walks.{walk_point, walk_held}
 use Rattle.hb_activity.specs.Wanting.{wanted_of}
 use Rattle.hb_core.specs.Machines.{Machine, live_here}
 pub use Rattle.hb_core.specs.declared.asking.AskedBox.{AskedBox}
-use Rattle.hb_core.specs.declared.asking.BoxTest.{BoxTest}
 use Rattle.hb_core.specs.declared.asking.BoxTest.TheVariants.{Exactly, Around}
 pub use Rattle.hb_view.specs.Naming.{first_child_box}
 use Rattle.hb_frag.specs.Leaves.{Placed, leaf_at, leaves_of, siblings_of, first_named}
 use Rattle.hb_latch.specs.Tables.{IsGrantable, IsLeastInTheWay}
-use Rattle.hb_space.specs.Boxes.{Area, Within, whole_area}
+use Rattle.hb_space.specs.Boxes.{Area, whole_area}
 use Rattle.hb_store.specs.States.{StoreState}
 use Rattle.hb_view.specs.declared.leaves.LeafView.{LeafView}
 use Rattle.hb_view.specs.declared.leaves.LeafView.TheVariants as views
@@ -103,21 +98,3 @@ asked_box other st = in_walk (walk_held other)
     in_walk : Option ℕ → Option AskedBox
     in_walk None = Some (whole_box st.meta.k)
     in_walk (Some held) = box_at (live_here st held) (walk_point other)
-
-abbrev pub HasAskedBox : AskedBox → Area → Type 0
-HasAskedBox asked area = by asked.test
-  where
-    by : BoxTest → Type 0
-    by Exactly = area ≡ asked.area
-    by Around = Within asked.area area
-
--- the page has the box that is asked for, where one is
-abbrev pub HasItsBox : Option AskedBox → LivePage → Type 0
-HasItsBox asked page = IfSome asked (λ box. HasAskedBox box page.area)
-
--- why a page isn't the one that was asked for, by the first test that it fails: it is free, of another level, of another box
-abbrev pub IsNotAsked : Wanted → AskedBox → Page → Why → Type 0
-IsNotAsked wanted asked (Free next) why = why ≡ Rule 2
-IsNotAsked wanted asked (Live page) (Rule rule) = ⊥
-IsNotAsked wanted asked (Live page) (Level level found) = (page.level ≢ wanted.level) × (level ≡ wanted.level) × (found ≡ page.level)
-IsNotAsked wanted asked (Live page) (Extent area found) = (page.level ≡ wanted.level) × (¬ (HasAskedBox asked page.area)) × (area ≡ asked.area) × (found ≡ page.area)

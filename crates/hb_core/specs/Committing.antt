@@ -1,5 +1,5 @@
 -- When a core may commit an operation, and what becomes of the file then.
-use Rattle.std.specs.Prelude.{◌≡◌, ◌≤◌, All, List, length, false, Option, Some, None}
+use Rattle.std.specs.Prelude.{◌≡◌, All, List, length, false, Option, Some, None}
 use Rattle.hb_disk.specs.Model.{DiskModel}
 use Rattle.hb_ops.specs.Files.{FileState, last_of}
 use Rattle.hb_ops.specs.Operations.{BoxesMatch, IsLicensed, OpHas}
@@ -7,7 +7,7 @@ use Rattle.hb_ops.specs.declared.operations.Op.{Op}
 use Rattle.hb_store.specs.Calls.{HasFrameFor, IsAllowedHere, IsReady, read_here, with_op}
 use Rattle.hb_store.specs.Keeps.{StoreKeeps}
 use Rattle.hb_store.specs.States.{StoreState}
-use Rattle.hb_wal.specs.Log.{Waiting}
+use Rattle.hb_wal.specs.Log.{IsMarkedTo}
 use Rattle.hb_core.specs.Showing.{RunningCore}
 
 -- An operation may be committed for a line that joins the order at its end.
@@ -19,7 +19,7 @@ pub record MayCommit (d : DiskModel) (c : RunningCore) (op : Op) : Type 0 where
   pub boxes : BoxesMatch op (read_here c.store op 0) (read_here c.store op 1) (read_here c.store op 2)
   pub place : HasFrameFor op c.store c.uses
   pub licensed : (durable : FileState) (later : List FileState) → StoreKeeps d c.store durable later → IsLicensed (last_of durable later) op
-  pub marks : All (λ (g : Waiting). g.mark ≤ length c.order) c.store.log.groups
+  pub marks : All (IsMarkedTo (length c.order)) c.store.log.groups
 
 -- what the disk holds of the file goes on with it
 abbrev pub later_with : Option Op → FileState → List FileState → List FileState

@@ -7,7 +7,8 @@ use Rattle.hb_activity.specs.declared.wanting.Wanted.{Wanted}
 use Rattle.hb_latch.specs.declared.modes.Mode.{Mode}
 use Rattle.hb_store.specs.declared.stops.Why.{Why}
 use Rattle.hb_store.specs.declared.stops.Why.TheVariants.{Rule, Level, Extent}
-use Rattle.hb_core.specs.Asking.{AskedBox, IsNotAsked}
+use Rattle.hb_core.specs.AskedBoxes.{IsNotAsked}
+use Rattle.hb_core.specs.Asking.{AskedBox}
 use Rattle.hb_core.specs.Machines.{Files, Machine, current_file}
 use Rattle.hb_latch.specs.Tables.{mode_at}
 use Rattle.hb_ops.specs.Files.{page_of}

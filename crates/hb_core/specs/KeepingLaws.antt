@@ -9,6 +9,7 @@ use Rattle.hb_core.specs.Keeps.{HasNoOtherLatches, HasNobodyElse, HasSoundFile, 
 use Rattle.hb_core.specs.KeptLines.{MetaWithinLimits}
 use Rattle.hb_core.specs.KeptOrder.{HasLegalOrder, HasPendingPrefix, StandsInOrder, StandsOutside}
 use Rattle.hb_core.specs.KeptMachine.{CoreKeeps}
+use Rattle.hb_core.specs.KeptPlaces.{MarksRise, RepliesStand}
 use Rattle.hb_core.specs.Machines.{Files, Machine, settled_count}
 use Rattle.hb_core.specs.SteppingLaws.{IsBegunOver}
 use Rattle.hb_core.specs.Steps.{StepsInSequence, StepsTo}
@@ -50,16 +51,16 @@ abbrev pub SettledStaysSettled : Type 0
 SettledStaysSettled = (n : RecordSet) (m : Machine) (files : Files) (actor : ℕ) (outcome : Outcome) (new : Machine) → m.files ≡ Some files → HasSoundFile m files → HasLegalOrder n m files → HasPendingPrefix n m files →
     StepsTo m actor outcome new → settled_count m ≤ settled_count new
 
--- After a step the file before each group that waits has the set after as many entries of the order as its mark says, marks
--- don't fall, and each answered entry stands below the oldest one's, where the order is legal before and after the step.
+-- After a step the file before each group that waits has the set after as many entries of the order as its mark says, and each
+-- answered entry stands below the oldest one's, where the order is legal before and after the step.
 abbrev pub PrefixStaysPending : Type 0
 PrefixStaysPending = (n : RecordSet) (m : Machine) (files : Files) (actor : ℕ) (outcome : Outcome) (new : Machine) (files' : Files) → m.files ≡ Some files → new.files ≡ Some files' → HasSoundFile m files →
-    HasLegalOrder n m files → HasPendingPrefix n m files → StepsTo m actor outcome new → IsLegalOrder n new.order → HasPendingPrefix n new files'
+    HasLegalOrder n m files → RepliesStand m → HasPendingPrefix n m files → StepsTo m actor outcome new → IsLegalOrder n new.order → HasPendingPrefix n new files'
 
 -- A file has the set after the first entries of the order, as many as this number; and each line that was answered is one of
 -- them, with its reply, or was answered outside of the order.
 abbrev pub IsAmongFirst : Machine → ℕ → Answered → Type 0
-IsAmongFirst m count a = StandsOutside a.reply ⊎ ((place : ℕ) × (place < count) × StandsInOrder m a.line a.reply place)
+IsAmongFirst m count a = StandsOutside a.reply ⊎ ((place : ℕ) × (place < count) × StandsInOrder m.order a.line a.reply place)
 
 pub record HasSetAfter (n : RecordSet) (m : Machine) (s : FileState) (count : ℕ) : Type 0 where
   pub inside : count ≤ length m.order
@@ -76,7 +77,7 @@ pub record HasPrefixes (n : RecordSet) (m : Machine) (files : Files) : Type 0 wh
   pub later : All (IsAfterLonger n m) files.later
 
 abbrev pub FilesHavePrefixes : Type 0
-FilesHavePrefixes = (n : RecordSet) (m : Machine) (files : Files) → HasSoundFile m files → HasLegalOrder n m files → HasPendingPrefix n m files → HasPrefixes n m files
+FilesHavePrefixes = (n : RecordSet) (m : Machine) (files : Files) → HasSoundFile m files → HasLegalOrder n m files → RepliesStand m → MarksRise m → HasPendingPrefix n m files → HasPrefixes n m files
 
 -- Steps of the 19 actors, in whatever sequence, keep all that a machine keeps over a disk that tells, and unsettle no place of the
 -- order. Where nothing but a write fault had stopped the machine, nothing else has.

@@ -59,23 +59,23 @@ pub record WalksInSpace (m : Machine) : Type 0 where
       (page : LivePage) × (live_here m.store parent ≡ Some page) × (page.level ≡ job.level) × LeadsBelow page job
   pub merging : (actor : ℕ) → IfSome (merging_at (m.activity actor)) (NamesKnown m.store)
 
+-- A data page that directly holds the point and has no record there.
+pub record LacksRecordAt (m : Machine) (id : ℕ) (p : List ℕ) : Type 0 where
+  pub page : LivePage
+  pub live : live_here m.store id ≡ Some page
+  pub level : page.level ≡ 0
+  pub direct : DirectlyHolds page p
+  pub absent : StandsNot page p
+
 -- A page that is to be split directly holds the point of the insert, has no record there, and has no room for it. Of the
 -- two halves, which are in use, one directly holds the point, has no record there, and has room; and not both hold it.
 pub record LacksRoomFor (m : Machine) (held : ℕ) (p body : List ℕ) : Type 0 where
-  pub page : LivePage
-  pub live : live_here m.store held ≡ Some page
-  pub level : page.level ≡ 0
-  pub direct : DirectlyHolds page p
-  pub absent : StandsNot page p
-  pub full : m.store.meta.dcap < weight_of (put_page (record { key = p; body = body }) page).frag
+  pub home : LacksRecordAt m held p
+  pub full : m.store.meta.dcap < weight_of (put_page (record { key = p; body = body }) home.page).frag
 
 pub record HasRoomFor (m : Machine) (half : ℕ) (p body : List ℕ) : Type 0 where
-  pub page : LivePage
-  pub live : live_here m.store half ≡ Some page
-  pub level : page.level ≡ 0
-  pub direct : DirectlyHolds page p
-  pub absent : StandsNot page p
-  pub room : weight_of (put_page (record { key = p; body = body }) page).frag ≤ m.store.meta.dcap
+  pub home : LacksRecordAt m half p
+  pub room : weight_of (put_page (record { key = p; body = body }) home.page).frag ≤ m.store.meta.dcap
 
 pub record OneHasRoom (m : Machine) (source fresh : ℕ) (p body : List ℕ) : Type 0 where
   pub first : LivePage

@@ -5,7 +5,7 @@ use Rattle.hb_core.specs.KeptOrder.{HasLegalOrder, HasPendingPrefix}
 use Rattle.hb_core.specs.Keeps.{HasNoOtherLatches, HasNobodyElse, HasSoundFile, HoldsPagesOfFile, KnowsRoom, LatchesFit, WalksInSpace}
 use Rattle.hb_core.specs.KeptFits.{AttributesFit, HaveClasses, RunsWithStore, WorkersStand}
 use Rattle.hb_core.specs.KeptLines.{LinesFit, LogInPlace, MetaWithinLimits}
-use Rattle.hb_core.specs.KeptPlaces.{AnswersAreSingle, MarksRise, OrderIsShort, RepliesStand}
+use Rattle.hb_core.specs.KeptPlaces.{AnswersAreSingle, AwaitsNoneOutside, MarksRise, OrderIsShort, RepliesStand}
 use Rattle.hb_core.specs.KeptSearches.{SearchesAreExact, SearchesGather}
 use Rattle.hb_core.specs.KeptSequence.{LinesInSequence}
 use Rattle.hb_core.specs.Locking.{BoxLocksFit}
@@ -24,6 +24,7 @@ pub record MachineKeeps (m : Machine) : Type 0 where
   pub lines_in_sequence : LinesInSequence m
   pub order_short : OrderIsShort m
   pub replies_stand : RepliesStand m
+  pub awaits_inside : AwaitsNoneOutside m
   pub answers_single : AnswersAreSingle m
   -- pages in memory are of the file; their frames, and the pins
   pub pages_of_file : HoldsPagesOfFile m

@@ -1,6 +1,7 @@
 pub mod Counts
 pub mod Machines
 pub mod Asking
+pub mod AskedBoxes
 pub mod Fetching
 pub mod Using
 pub mod Performing

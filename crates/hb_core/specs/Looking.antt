@@ -10,7 +10,8 @@ use Rattle.hb_frag.specs.declared.pages.Page.{Page}
 use Rattle.hb_frag.specs.declared.pages.Page.TheVariants.{Live, Free}
 use Rattle.hb_store.specs.declared.stops.Why.{Why}
 use Rattle.hb_store.specs.States.{StoreState, in_memory}
-use Rattle.hb_core.specs.Asking.{IsNotAsked, asked_box, looked_live, HasItsBox}
+use Rattle.hb_core.specs.AskedBoxes.{HasItsBox, IsNotAsked}
+use Rattle.hb_core.specs.Asking.{asked_box, looked_live}
 use Rattle.hb_core.specs.Machines.{live_here}
 
 -- the page into which an activity looks is in memory, and can be looked into

@@ -4,11 +4,10 @@ use Rattle.hb_frag.specs.declared.pages.LivePage.{LivePage}
 use Rattle.hb_latch.specs.Tables.{mode_at}
 use Rattle.hb_space.specs.Actors.{IsActor}
 use Rattle.hb_ops.specs.declared.operations.Op.{Op}
-use Rattle.hb_ops.specs.Operations.{BoxesMatch, OpHas}
 use Rattle.hb_activity.specs.declared.wanting.Wanted.{Wanted}
 use Rattle.hb_activity.specs.Waiting.{IsLater}
 use Rattle.hb_activity.specs.Walks.{walk_held}
-use Rattle.hb_store.specs.Calls.{IsAllowedHere, read_here}
+use Rattle.hb_store.specs.Making.{IsDoableHere}
 use Rattle.hb_store.specs.States.{StoreState}
 use Rattle.hb_core.specs.declared.outcomes.Outcome.{Outcome}
 use Rattle.hb_core.specs.AllowedLaws.{AnyPage, IsLicensedHere}
@@ -36,10 +35,8 @@ MachinesStayKept = (actors : List ℕ) (m new : Machine) → All IsActor actors 
 -- The operation of a row is allowed on the pages in memory and licensed by them, its points and boxes have the file's number of
 -- attributes, and the boxes of the pages that it reads match.
 pub record MayBeDoneHere (st : StoreState) (op : Op) : Type 0 where
-  pub allowed : IsAllowedHere st op
+  pub doable : IsDoableHere op st
   pub licensed : IsLicensedHere st op
-  pub attributes : OpHas st.meta.k op
-  pub boxes : BoxesMatch op (read_here st op 0) (read_here st op 1) (read_here st op 2)
 
 abbrev pub RowsMayBeDone : Type 0
 RowsMayBeDone = (m : Machine) (actor : ℕ) (fetched : StoreState) (deed : Deed) (op : Op) → IsActor actor → MachineKeeps m → Brings m AnyPage fetched →

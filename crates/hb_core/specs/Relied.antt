@@ -1,4 +1,4 @@
--- What the private calls of a step rely on: a record for each, which also says that the actor is one of the 19.
+-- What the calls of a core rely on; of the private calls of a step a record for each, which also says that the actor is one of the 19.
 use Rattle.std.specs.Prelude.{◌≡◌, ℕ, ◌-◌, ◌≤◌, All, length, Option, Some, None, IsSome}
 use Rattle.std.specs.List.{slice_get}
 use Rattle.hb_disk.specs.Model.{DiskModel}
@@ -17,6 +17,13 @@ use Rattle.hb_core.specs.Showing.{RunningCore}
 use Rattle.hb_core.specs.Taking.{HaveBoxes}
 use Rattle.hb_core.specs.Working.{HasCome, HasPages, IsWorking, MayStep, MayWork}
 
+-- the core shows a machine that may take steps; or one that may and isn't stopped
+abbrev pub MayTakeSteps : DiskModel → RunningCore → Type 0
+MayTakeSteps d c = (m : Machine) × MayStep d c m
+
+abbrev pub MayRun : DiskModel → RunningCore → Type 0
+MayRun d c = (m : Machine) × MayStep d c m × (m.stop ≡ None)
+
 -- ---- a step that takes or answers a line
 
 -- so many lines lie behind a session, and no more than there are; the boxes of lines and of locks have the file's attributes
@@ -33,12 +40,8 @@ pub record AwaitsSomePlace (c : RunningCore) (who : ℕ) : Type 0 where
 
 pub record MayAwait (d : DiskModel) (c : RunningCore) (who place : ℕ) : Type 0 where
   pub actor : IsActor who
-  pub may : (m : Machine) × MayStep d c m × (m.stop ≡ None)
+  pub may : MayRun d c
   pub awaits : (number : ℕ) × (reply : Reply) × StandsAs c who (at.SessionAwait number reply place)
-
--- the machine runs: it may flush
-abbrev pub MayFlush : DiskModel → RunningCore → Type 0
-MayFlush d c = (m : Machine) × MayStep d c m × (m.stop ≡ None)
 
 -- ---- a step that wants a latch or changes the file
 

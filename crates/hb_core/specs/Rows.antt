@@ -13,7 +13,8 @@ use Rattle.hb_activity.specs.Passing.{PassesOn}
 use Rattle.hb_activity.specs.Sights.{Sight}
 use Rattle.hb_activity.specs.Walks.{goal_of}
 use Rattle.hb_consol.specs.MergeRows.{ConsolidatorRow}
-use Rattle.hb_core.specs.Asking.{asked_box, HasItsBox}
+use Rattle.hb_core.specs.AskedBoxes.{HasItsBox}
+use Rattle.hb_core.specs.Asking.{asked_box}
 use Rattle.hb_core.specs.Machines.{Machine, live_here, sight}
 use Rattle.hb_point.specs.SessionRows.{DoesThere}
 use Rattle.hb_point.specs.SplitRows.{PutsInHalf, SplitsOrFull}

@@ -1,56 +1,40 @@
 -- What a run of a core comes to: many steps, from a machine that it shows to one that it shows then.
-use Rattle.std.specs.Prelude.{◌≡◌, ℕ, ◌+◌, ◌≤◌, Bool, not, All, Any, List, ◌++◌, count_by, filter, length, map, take, Option, Some, IsSome}
+use Rattle.std.specs.Prelude.{◌≡◌, ℕ, ◌+◌, ◌≤◌, Bool, not, All, Any, List, ◌++◌, count_by, filter, length, map, Option, Some, IsSome}
 use Rattle.hb_disk.specs.Calls.{Becomes, Leaves}
 use Rattle.hb_disk.specs.Model.{DiskModel, Torn}
 use Rattle.hb_layout.specs.Offsets.{file_size}
 use Rattle.hb_space.specs.Actors.{IsActor}
-use Rattle.hb_ops.specs.Files.{FileState, contents_of}
-use Rattle.hb_ops.specs.Sound.{IsSound}
 use Rattle.hb_outside.specs.Streams.{Rose}
 use Rattle.hb_set.specs.declared.commands.Reply.TheVariants as replies
 use Rattle.hb_point.specs.SessionRows.{is_answered}
 use Rattle.hb_set.specs.declared.scripts.Answered.{Answered}
 use Rattle.hb_set.specs.declared.scripts.Line.{Line}
 use Rattle.hb_set.specs.Machine.{RecordSet}
-use Rattle.hb_set.specs.Order.{Entry, result_of}
-use Rattle.hb_sound.specs.PointWalks.{IsPointOf}
+use Rattle.hb_set.specs.Order.{Entry}
 use Rattle.hb_store.specs.declared.stops.StopWhy.{StopWhy}
 use Rattle.hb_store.specs.declared.stops.StopWhy.TheVariants as stops
 use Rattle.hb_store.specs.Keeps.{PartsOpen}
-use Rattle.hb_store.specs.Opening.{OpensTo}
 use Rattle.hb_store.specs.States.{StoreState}
 use Rattle.hb_core.specs.FileLaws.{FilesStaySound}
 use Rattle.hb_core.specs.KeepingLaws.{StepsKeepAll}
 use Rattle.hb_core.specs.KeptMachine.{CoreKeeps}
 use Rattle.hb_core.specs.KeptOrder.{StandsInOrder}
-use Rattle.hb_core.specs.Laws.{HasOnePage}
 use Rattle.hb_core.specs.MachineLaws.{MachineStaysKept}
 use Rattle.hb_core.specs.Machines.{Files, Machine}
-use Rattle.hb_core.specs.MomentLaws.{ImagesHavePrefixes}
+use Rattle.hb_core.specs.MomentLaws.{ImagesHavePrefixes, IsPrefixImage}
 use Rattle.hb_core.specs.Showing.{RunningCore, ShowsMachine}
 use Rattle.hb_core.specs.Steps.{StepsInSequence}
 use Rattle.hb_core.specs.Working.{MayGoOn}
 
--- The bytes open to a sound file that has the set after a prefix of the order, of at least so many entries; and in it each point has
--- one responsible page, at which the walk from the root ends.
-pub record IsPrefixImage (n : RecordSet) (order : List Entry) (least : ℕ) (bytes : List ℕ) : Type 0 where
-  pub s : FileState
-  pub opens : OpensTo bytes s
-  pub sound : IsSound s
-  pub pages : (p : List ℕ) → IsPointOf s p → HasOnePage s p
-  pub count : ℕ
-  pub enough : least ≤ count
-  pub inside : count ≤ length order
-  pub contents : contents_of s ≡ result_of n (take count order)
+-- Since the answer every image has a prefix of the order that holds it, where it stands in the order.
+abbrev pub HoldsSince : DiskModel → RecordSet → List Entry → Answered → Type 0
+HoldsSince e n order a = (place : ℕ) → StandsInOrder order a.line a.reply place → (c : List ℕ) → e.ImageSince a.at c → IsPrefixImage n order (place + 1) c
 
 -- What crashes leave of a run from one moment of the disk to another, by the machine that it came to: at each moment the set after a
--- prefix of its order; and since an answer that stands in the order, one that holds it.
-abbrev pub HoldsSince : DiskModel → RecordSet → Machine → Answered → Type 0
-HoldsSince e n m a = (place : ℕ) → StandsInOrder m a.line a.reply place → (c : List ℕ) → e.ImageSince a.at c → IsPrefixImage n m.order (place + 1) c
-
+-- prefix of its order, which since an answer holds it.
 pub record CrashesTo (n : RecordSet) (d e : DiskModel) (m : Machine) (answers : List Answered) : Type 0 where
   pub each : Leaves d e (IsPrefixImage n m.order 0)
-  pub since : All (HoldsSince e n m) answers
+  pub since : All (HoldsSince e n m.order) answers
 
 -- The answers that a run gave are those that came to the machine. Over a disk that tells nothing the clocks are tied to nothing.
 abbrev pub without_clock : Answered → Answered

@@ -14,10 +14,10 @@ ghost use Rattle.hb_core.specs.CoreSeen.{core_seen, core_disk, Alters};
 ghost use Rattle.hb_core.specs.Counting.{CountsFlush, CountsStay};
 ghost use Rattle.hb_core.specs.KeptFits.{JobFits};
 ghost use Rattle.hb_core.specs.Machines.{Machine};
-ghost use Rattle.hb_core.specs.Relied.{MayFlush};
 ghost use Rattle.hb_core.specs.Showing.{ShowsMachine};
 ghost use Rattle.hb_core.specs.Steps.{StepsTo};
 ghost use Rattle.hb_core.specs.Touching.{Touches, held_in};
+ghost use Rattle.hb_core.specs.Relied.{MayRun};
 ghost use Rattle.hb_core.specs.Working.{MayStep};
 
 use crate::copies::CopyStop;
@@ -46,7 +46,7 @@ impl<D: Device> Core<D> {
     /// `Damaged` exactly where the page's bytes are no page or break one of the rules that `local_rule` tests; then the core is
     /// stopped. `Crowded` exactly where the page isn't in memory and there is no place for it: a flush makes one.
     pub fn page_copy(&mut self, id: u32) -> Result<Page, CopyStop>
-        requires runs { MayFlush (D.model (core_disk self.old)) (core_seen self.old) }
+        requires runs { MayRun (D.model (core_disk self.old)) (core_seen self.old) }
         requires page { IsPageOf (core_seen self.old).store.meta id }
         ensures copies { (m : Machine) → MayStep (D.model (core_disk self.old)) (core_seen self.old) m →
             (new : Machine) × CopiesPage id result m new × MayStep (D.model (core_disk self.new)) (core_seen self.new) new }
@@ -96,7 +96,7 @@ impl<D: Device> Core<D> {
 
     /// Flushes once, and says what that did. It is a step of the flusher, and counts as one. A fault stops the core.
     pub fn help(&mut self) -> Result<Flushed, WriteFault>
-        requires { MayFlush (D.model (core_disk self.old)) (core_seen self.old) }
+        requires { MayRun (D.model (core_disk self.old)) (core_seen self.old) }
         ensures which { IfOk result (IsDue (held_in (core_seen self.old))) }
         ensures steps { (m : Machine) → MayStep (D.model (core_disk self.old)) (core_seen self.old) m →
             (new : Machine) × StepsTo m 19 (said_of_flush result) new × ShowsMachine (D.model (core_disk self.new)) (core_seen self.new) new }

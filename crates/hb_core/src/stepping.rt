@@ -17,7 +17,7 @@ ghost use Rattle.hb_core.specs.Steps.{AwaitsPlace, StepsTo};
 ghost use Rattle.hb_core.specs.Touching.{StepsSo, Touches};
 ghost use Rattle.hb_core.specs.Taking.{TakesNextLine, TakesNextMerging, TakesNextPosting};
 ghost use Rattle.hb_core.specs.Working.{MayStep};
-ghost use Rattle.hb_core.specs.Relied.{AwaitsSomePlace, MayAwait, MayFlush, MayTakeLine};
+ghost use Rattle.hb_core.specs.Relied.{AwaitsSomePlace, MayAwait, MayRun, MayTakeLine, MayTakeSteps};
 
 use crate::halts::copy_of;
 use crate::locking::first_against;
@@ -39,7 +39,7 @@ impl<D: Device> Core<D> {
     /// what the call answers.
     pub fn step(&mut self, actor: Actor) -> Outcome
         requires actor { IsActor actor }
-        requires may { (m : Machine) × MayStep (D.model (core_disk self.old)) (core_seen self.old) m }
+        requires may { MayTakeSteps (D.model (core_disk self.old)) (core_seen self.old) }
         ensures steps { (m : Machine) → MayStep (D.model (core_disk self.old)) (core_seen self.old) m →
             (new : Machine) × StepsTo m actor result new × ShowsMachine (D.model (core_disk self.new)) (core_seen self.new) new }
         ensures touches { Touches (D.model (core_disk self.old)) (core_seen self.old) result (D.model (core_disk self.new)) (core_seen self.new) }
@@ -168,7 +168,7 @@ impl<D: Device> Core<D> {
 
     /// Flushes once, and says what is due then; `Idle` where nothing is left to flush.
     pub(crate) fn flush(&mut self, due: Outcome) -> Outcome
-        requires may { MayFlush (D.model (core_disk self.old)) (core_seen self.old) }
+        requires may { MayRun (D.model (core_disk self.old)) (core_seen self.old) }
         requires due { SaysItFlushed due }
         ensures { StepsSo (λ m. m.stop ≡ None →
             (new : Machine) × FlushesOnce m due (StaysSo m outcomes.Idle result new) result new × ShowsMachine (D.model (core_disk self.new)) (core_seen self.new) new)

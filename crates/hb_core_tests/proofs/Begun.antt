@@ -39,14 +39,14 @@ copied_spelling id page d e old new fresh copies =
 
 -- ---- a script that was read
 
-pub fit_script : (lines : List Line) (steps : List ℕ) → IsScriptFor 1 lines → All IsFitLine lines → All (λ (actor : ℕ). (1 ≤ actor) × (actor ≤ 19)) steps → IsFitScript lines steps
+pub fit_script : (lines : List Line) (steps : List ℕ) → IsScriptFor 1 lines → All IsFitLine lines → All IsActor steps → IsFitScript lines steps
 fit_script lines steps script fit actors =
     let short = script_is_short 1 lines script in
     record {
       few = omega (arith, short);
       rising = script.rising;
       fit = fit;
-      actors = All-weaker (λ (actor : ℕ). (1 ≤ actor) × (actor ≤ 19)) IsActor (λ actor is. record { from_1 = is.0; to_19 = is.1 }) steps actors;
+      actors = actors;
     }
 
 -- ---- a store that was just made or opened

@@ -1,13 +1,12 @@
 -- What the tests keep of a script that they read, and of a core that they begin.
-use Rattle.std.specs.Prelude.{◌≡◌, ◌≤◌, ◌<◌, ◌^◌, ℕ, List, All, None, length}
+use Rattle.std.specs.Prelude.{◌≡◌, ◌≤◌, ◌<◌, ◌^◌, ℕ, List, All, length}
 use Rattle.hb_disk.specs.Model.{DiskModel}
 use Rattle.hb_core.specs.Counting.{CountsWithin}
 use Rattle.hb_core.specs.KeptFits.{LineFits}
 use Rattle.hb_core.specs.KeptLines.{HasLineBody}
-use Rattle.hb_core.specs.Machines.{Machine}
 use Rattle.hb_core.specs.Showing.{RunningCore}
 use Rattle.hb_core.specs.Taking.{all_idle}
-use Rattle.hb_core.specs.Working.{MayStep}
+use Rattle.hb_core.specs.Relied.{MayRun}
 use Rattle.hb_set.specs.Order.{AreRising}
 use Rattle.hb_set.specs.declared.scripts.Line.{Line}
 use Rattle.hb_space.specs.Actors.{IsActor}
@@ -26,7 +25,7 @@ pub record IsFitScript (lines : List Line) (steps : List ℕ) : Type 0 where
 
 -- Steps may be taken of it, it isn't stopped, nobody has anything in hand, and its file has one attribute and some page.
 pub record IsBegunCore (d : DiskModel) (c : RunningCore) : Type 0 where
-  pub may : (m : Machine) × MayStep d c m × (m.stop ≡ None)
+  pub may : MayRun d c
   pub idle : c.activities ≡ all_idle
   pub counts : CountsWithin c
   pub actors : All IsActor c.steps

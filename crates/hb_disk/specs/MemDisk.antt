@@ -38,13 +38,10 @@ pub record StartsWith (bytes failing : List ℕ) (d : MemDisk) : Type 0 where
 -- A read fails exactly at a listed call. It changes nothing but the counts.
 pub record ReadExactly {T E : Type 0} (result : Result T E) (old new : MemDisk) : Type 0 where
   pub fails : IsErr result ↔ IsListed old
-  pub history : new.history ≡ old.history
   pub calls : new.calls ≡ next_count old.calls
-  pub failing : new.failing ≡ old.failing
   pub fault : OnErr result (new.read_faults ≡ next_count old.read_faults)
   pub no_fault : OnOk result (new.read_faults ≡ old.read_faults)
-  pub write_faults : new.write_faults ≡ old.write_faults
-  pub starved : new.starved ≡ old.starved
+  pub rest : new ≡ record old { calls = new.calls; read_faults = new.read_faults }
 
 -- the record of calls is the same; or has one event more: a write over a range, a try at it, or a sync
 abbrev pub HasSameRecord : MemDisk → MemDisk → Type 0
@@ -83,8 +80,4 @@ pub record SetsByte (before at byte : ℕ) (old new : MemDisk) : Type 0 where
   pub size : length (bytes_of new) ≡ length (bytes_of old)
   pub record_kept : HasSameRecord old new
   pub clock : new.history.clock ≡ old.history.clock
-  pub calls : new.calls ≡ old.calls
-  pub failing : new.failing ≡ old.failing
-  pub read_faults : new.read_faults ≡ old.read_faults
-  pub write_faults : new.write_faults ≡ old.write_faults
-  pub starved : new.starved ≡ old.starved
+  pub rest : new ≡ record old { history = new.history }

@@ -3,6 +3,7 @@ ghost use Rattle.std.specs.Prelude.{◌≡◌, ◌≤◌, ◌↔◌, [], IsTrue,
 ghost use Rattle.hb_core.specs.CoreSeen.{core_seen, core_disk};
 ghost use Rattle.hb_core.specs.Machines.{Machine};
 ghost use Rattle.hb_core.specs.Runs.{HasReadFault};
+ghost use Rattle.hb_core.specs.Relied.{MayTakeSteps};
 ghost use Rattle.hb_core.specs.Working.{MayStep};
 ghost use Rattle.hb_drive.specs.Driving.{IsEndOf, LeavesEnd};
 
@@ -22,7 +23,7 @@ pub fn end_run<D: Disk, K: Sink>(
     answered: Vec<Answered>,
     mut left: Vec<u32>,
 ) -> Ran<D, K>
-    requires may { (m : Machine) × MayStep (D.model (core_disk core)) (core_seen core) m }
+    requires may { MayTakeSteps (D.model (core_disk core)) (core_seen core) }
     requires none { left.items ≡ [] }
     requires room { length (core_seen core).lines ≤ vec_capacity left }
     ensures same { (result.core ≡ core) × (result.answered ≡ answered) }

@@ -10,8 +10,7 @@
 ghost use Rattle.std.specs.Prelude.{◌≡◌, ◌≤◌, [], All, IfOk, length, vec_capacity};
 ghost use Rattle.hb_space.specs.Actors.{IsActor};
 ghost use Rattle.hb_core.specs.CoreSeen.{core_seen, core_disk};
-ghost use Rattle.hb_core.specs.Machines.{Machine};
-ghost use Rattle.hb_core.specs.Working.{MayStep};
+ghost use Rattle.hb_core.specs.Relied.{MayTakeSteps};
 ghost use Rattle.hb_drive.specs.Driving.{DrivesTo, LeavesRun};
 
 mod ending;
@@ -34,7 +33,7 @@ pub use writing::{put_answer, put_order_on};
 ///
 /// For want of memory, which is asked for before the first step alone, no step is taken and nothing is written.
 pub fn drive<D: Disk, K: Sink>(alloc: Global, mut core: Core<D>, mut sink: K) -> Ran<D, K>
-    requires may { (m : Machine) × MayStep (D.model (core_disk core)) (core_seen core) m }
+    requires may { MayTakeSteps (D.model (core_disk core)) (core_seen core) }
     requires actors { All IsActor (core_seen core).steps }
     ensures { LeavesRun (λ m. DrivesTo m (core_seen core).steps result.answered.items (D.model (core_disk core)) (D.model (core_disk result.core)) (core_seen result.core) result.end (K.model sink) (K.model result.sink))
         D.model K.model core sink result }

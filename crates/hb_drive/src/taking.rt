@@ -8,6 +8,7 @@ ghost use Rattle.hb_core.specs.CoreSeen.{core_seen, core_disk};
 ghost use Rattle.hb_core.specs.Machines.{Machine};
 ghost use Rattle.hb_core.specs.Performing.{given_by};
 ghost use Rattle.hb_core.specs.Runs.{HasRun};
+ghost use Rattle.hb_core.specs.Relied.{MayTakeSteps};
 ghost use Rattle.hb_core.specs.Working.{MayStep};
 
 use crate::writing::put_answer;
@@ -26,7 +27,7 @@ pub(crate) fn take_steps<D: Disk, K: Sink>(
     sink: &mut K,
     answered: &mut Vec<Answered>,
 ) -> Result<(), Failed>
-    requires may { (m : Machine) × MayStep (D.model (core_disk core.old)) (core_seen core.old) m }
+    requires may { MayTakeSteps (D.model (core_disk core.old)) (core_seen core.old) }
     requires actors { All IsActor steps.now }
     requires none { answered.old.items ≡ [] }
     requires room { length (core_seen core.old).lines ≤ vec_capacity answered.old }

@@ -1,5 +1,5 @@
 -- That page 1 stays in memory, pinned, through changes of it and flushes.
-use Rattle.std.proofs.Common.{◌≡◌, ◌≢◌, inl, inr, ℕ, ◌<◌, ◌≤◌, ◌==◌, Bool, true, false, cond, List, [], ◌∷◌, map, All, Option, Some, None, IsSome, IsTrue, Ok, refl, sym, ap, ◌∙◌, subst, arith}
+use Rattle.std.proofs.Common.{◌≡◌, ◌≢◌, inl, inr, ℕ, ◌<◌, ◌==◌, Bool, true, false, cond, List, [], ◌∷◌, map, All, Option, Some, None, IsSome, IsTrue, Ok, refl, sym, ap, ◌∙◌, subst, arith}
 use Rattle.std.specs.Prelude.{IsSomeAnd, MatchOption}
 use Rattle.std.specs.List.{find}
 use Rattle.std.specs.Option.{is_some, option_or, option_to_list}
@@ -11,10 +11,10 @@ use Rattle.std.proofs.lemmas.Map.Views.{All-remove_key}
 use Rattle.hb_lemmas.proofs.Lists.{All-alone}
 use Rattle.hb_lemmas.proofs.Options.{some_value}
 use Rattle.hb_disk.specs.Model.{DiskModel}
-use Rattle.hb_wal.specs.Log.{LogState, Waiting}
+use Rattle.hb_wal.specs.Log.{IsMarkedTo, LogState, Waiting}
 use Rattle.hb_ops.specs.declared.operations.Op.{Op}
 use Rattle.hb_ops.specs.Operations.{reads_of}
-use Rattle.hb_pool.specs.Frames.{Use, clean, filled, fresh, has_id, must_stay, pinned}
+use Rattle.hb_pool.specs.Frames.{IsStaying, Use, clean, filled, fresh, has_id, pinned}
 use Rattle.hb_pool.specs.Pools.{brought, frame_of, in_place, put_last, with_room}
 use Rattle.hb_pool.proofs.Facts.Firsts.{first_passes}
 use Rattle.hb_pool.proofs.Facts.Others.{last_no_other, marked_pages_stay}
@@ -32,9 +32,6 @@ use Rattle.hb_file_tests.proofs.Staying.{found_all, room_all}
 abbrev IsFast : Use → Type 0
 IsFast u = u.id ≡ 1 → 0 < u.pins
 
-abbrev IsEarly : Waiting → Type 0
-IsEarly g = g.mark ≤ 7
-
 -- ---- the page is fetched into a store without pages
 
 pub first_may_pin : (uses after : List Use) → uses ≡ [] → after ≡ use_fetched 1 uses → IsSomeAnd (frame_of after 1) (λ (u : Use). u.pins < 255)
@@ -47,7 +44,7 @@ first_held st mid new uses after last none fetched same order then driven =
     let is : last ≡ put_last 1 pinned (use_fetched 1 []) = then ∙ ap (λ (l : List Use). put_last 1 pinned l) (order ∙ ap (λ (l : List Use). use_fetched 1 l) none) in
     subst (λ (s : StoreState). IsDrivenOnFirst s last) (sym same) (record {
       running = ap (λ (s : StoreState). s.stopped) fetched.rest ∙ driven.running;
-      marks = subst (λ (log : LogState). All IsEarly log.groups) (sym (ap (λ (s : StoreState). s.log) fetched.rest)) driven.marks;
+      marks = subst (λ (log : LogState). All (IsMarkedTo 7) log.groups) (sym (ap (λ (s : StoreState). s.log) fetched.rest)) driven.marks;
       first = subst HoldsFirst (sym is) (record { there = refl; pinned = All-alone IsFast (pinned (fresh 1 (tt {0}) false)) (λ _. omega arith) });
     })
 
@@ -61,7 +58,7 @@ module _ (uses : List Use) (held : HoldsFirst uses) where
   first_stays : StaysHere uses 1
   first_stays =
       let f = some_value (frame_of uses 1) held.there in
-      let Q : Option Use → Type 0 = λ o. IsSomeAnd o (λ (u : Use). IsTrue (must_stay u)) in
+      let Q : Option Use → Type 0 = λ o. IsSomeAnd o IsStaying in
       subst Q (sym f.1) (pinned_stays f.0 (first_pinned f.0 f.1))
 
   -- another page, or this one, was put last
@@ -129,7 +126,7 @@ first_has_place op st uses reads driven places = record {
 pub first_changed : (op : Op) (st new : StoreState) (uses after : List Use) → Commits op 7 st new → after ≡ use_changed (numbers_changed st op) uses → IsDrivenOnFirst st uses → IsDrivenOnFirst new after
 first_changed op st new uses after commits order driven = record {
   running = commits.stopped ∙ driven.running;
-  marks = subst (All IsEarly) (sym commits.groups) (All-append IsEarly st.log.groups (record { bytes = commits.group; mark = 7 } ∷ []) driven.marks (All-alone IsEarly (record { bytes = commits.group; mark = 7 }) (omega arith)));
+  marks = subst (All (IsMarkedTo 7)) (sym commits.groups) (All-append (IsMarkedTo 7) st.log.groups (record { bytes = commits.group; mark = 7 } ∷ []) driven.marks (All-alone (IsMarkedTo 7) (record { bytes = commits.group; mark = 7 }) (omega arith)));
   first = subst HoldsFirst (sym order) (changed_first (numbers_changed st op) uses driven.first);
 }
 
@@ -161,9 +158,9 @@ module _ (d e : DiskModel) (old new : StoreHeld) (driven : IsDrivenOnFirst old.s
   home_first none home = by (oldest_dirty old.uses) home
     where
       by : (o : Option ℕ) → MatchOption o (FlushesClean (Ok tt) d e old new) (λ id. WritesHome (Ok tt) id d e old new) → IsOn new
-      by None (inl (some, switches)) = subst IsOn (sym switches.switched) (record { running = driven.running; marks = All-nil IsEarly; first = driven.first })
+      by None (inl (some, switches)) = subst IsOn (sym switches.done) (record { running = driven.running; marks = All-nil (IsMarkedTo 7); first = driven.first })
       by None (inr (empty, ok, reads, same)) = subst IsOn (sym same) driven
-      by (Some id) writes = subst IsOn (sym writes.cleaned) (record { running = driven.running; marks = driven.marks; first = clean_first id old.uses driven.first })
+      by (Some id) writes = subst IsOn (sym writes.done) (record { running = driven.running; marks = driven.marks; first = clean_first id old.uses driven.first })
 
   pub first_flushed : (old.state.log.groups ≢ [] → WritesGroups (Ok tt) d e old.state new.state × (new.uses ≡ old.uses)) → (old.state.log.groups ≡ [] → FlushesHome (Ok tt) d e old new) → IsDrivenOnFirst new.state new.uses
   first_flushed forces cleans = by old.state.log.groups refl
@@ -172,4 +169,4 @@ module _ (d e : DiskModel) (old new : StoreHeld) (driven : IsDrivenOnFirst old.s
       by [] none = home_first none (cleans none)
       by (g ∷ rest) some =
           let did = forces (λ none. let never : g ∷ rest ≡ [] = sym some ∙ none in cc never) in
-          subst (λ (s : StoreState). IsDrivenOnFirst s new.uses) (sym did.0.forced) (subst (λ (l : List Use). IsDrivenOnFirst (forced_state old.state) l) (sym did.1) (record { running = driven.running; marks = All-nil IsEarly; first = driven.first }))
+          subst (λ (s : StoreState). IsDrivenOnFirst s new.uses) (sym did.0.forced) (subst (λ (l : List Use). IsDrivenOnFirst (forced_state old.state) l) (sym did.1) (record { running = driven.running; marks = All-nil (IsMarkedTo 7); first = driven.first }))

@@ -1,5 +1,5 @@
 -- What stays in memory, and how often it is pinned, once a page was fetched, pinned or changed.
-use Rattle.std.proofs.Common.{◌≡◌, ℕ, ◌<◌, ◌==◌, nat_lt, Bool, true, false, cond, List, [], ◌∷◌, ◌++◌, length, map, All, Option, Some, None, IsTrue, IsSome, refl, sym, ap, subst, ◌∙◌, arith}
+use Rattle.std.proofs.Common.{◌≡◌, ℕ, ◌<◌, ◌==◌, nat_lt, Bool, true, false, cond, List, [], ◌∷◌, ◌++◌, length, map, All, Option, Some, None, IsSome, refl, sym, ap, subst, ◌∙◌, arith}
 use Rattle.std.specs.Prelude.{IsSomeAnd}
 use Rattle.std.specs.List.{find}
 use Rattle.std.specs.Option.{is_some, option_map, option_or, option_to_list}
@@ -12,15 +12,12 @@ use Rattle.hb_pool.proofs.Facts.Others.{absent_left}
 use Rattle.hb_lemmas.proofs.Lists.{All-alone}
 use Rattle.hb_lemmas.proofs.Options.{some_value, at_some_and, some_of_and}
 use Rattle.hb_pool.specs.declared.pools.TheConstants.{FRAMES}
-use Rattle.hb_pool.specs.Frames.{Use, filled, fresh, has_id, may_go, must_stay, pinned}
+use Rattle.hb_pool.specs.Frames.{IsStaying, Use, filled, fresh, has_id, may_go, pinned}
 use Rattle.hb_pool.specs.Pools.{IsPool, brought, frame_of, put_last, with_room}
 use Rattle.hb_pool.proofs.Facts.Others.{came_in, last_changed, marked_pages_stay}
 use Rattle.hb_pool.proofs.Facts.Pooled.{dirty_stays, pinned_stays}
 use Rattle.hb_store.specs.Calls.{use_changed, use_fetched}
 use Rattle.hb_file_tests.specs.Driven.{AllStay, IsPinned}
-
-abbrev Stays : Use → Type 0
-Stays u = IsTrue (must_stay u)
 
 -- the frame of a page that came in clean
 abbrev new_use : ℕ → Use
@@ -72,13 +69,13 @@ module _ (P : Use → Type 0) (uses : List Use) (id : ℕ) (all : All P uses) wh
 
 -- ---- pages that are changed
 
-changed_stays : (u : Use) → Stays (filled (tt {0}) u)
+changed_stays : (u : Use) → IsStaying (filled (tt {0}) u)
 changed_stays u = dirty_stays (filled (tt {0}) u) refl
 
 step_stays : (id : ℕ) (uses : List Use) → AllStay uses → AllStay (cond (is_some (frame_of uses id)) (put_last id (filled (tt {0})) uses) (brought id (tt {0}) true uses))
 step_stays id uses stay = elim (is_some (frame_of uses id)) as (λ b. AllStay (cond b (put_last id (filled (tt {0})) uses) (brought id (tt {0}) true uses))) [
-  | true ↦ last_all Stays uses id stay (filled (tt {0})) changed_stays
-  | false ↦ brought_all Stays uses id stay true (dirty_stays (fresh id (tt {0}) true) refl)
+  | true ↦ last_all IsStaying uses id stay (filled (tt {0})) changed_stays
+  | false ↦ brought_all IsStaying uses id stay true (dirty_stays (fresh id (tt {0}) true) refl)
 ]
 
 pub changed_stay : (ids : List ℕ) (uses : List Use) → AllStay uses → AllStay (use_changed ids uses)
@@ -109,7 +106,7 @@ module _ (uses : List Use) (id : ℕ) (absent : frame_of uses id ≡ None) where
 
   pub pinned_stay : AllStay uses → AllStay (put_last id pinned (use_fetched id uses))
   pinned_stay stay =
-      subst AllStay (sym new_last) (All-append Stays (with_room uses) (pinned (new_use id) ∷ []) (room_all Stays uses id stay) (All-alone Stays (pinned (new_use id)) (pinned_stays (pinned (new_use id)) (omega arith))))
+      subst AllStay (sym new_last) (All-append IsStaying (with_room uses) (pinned (new_use id) ∷ []) (room_all IsStaying uses id stay) (All-alone IsStaying (pinned (new_use id)) (pinned_stays (pinned (new_use id)) (omega arith))))
 
   pub pinned_then : IsPinned (put_last id pinned (use_fetched id uses)) id
   pinned_then =

@@ -1,5 +1,5 @@
 -- What tests use of a store: over a disk that tells nothing no licence is owed, and each call leaves a driven store driven.
-use Rattle.std.proofs.Common.{◌≡◌, ◌≢◌, inl, inr, ℕ, ◌<◌, ◌≤◌, ◌==◌, Bool, true, false, cond, List, [], ◌∷◌, All, Option, Some, None, IsSome, IsTrue, Ok, refl, sym, ap, ◌∙◌, subst, arith}
+use Rattle.std.proofs.Common.{◌≡◌, ◌≢◌, inl, inr, ℕ, ◌<◌, ◌≤◌, ◌==◌, Bool, true, false, cond, List, [], ◌∷◌, All, Option, Some, None, IsSome, Ok, refl, sym, ap, ◌∙◌, subst, arith}
 use Rattle.std.specs.Prelude.{IsSomeAnd, MatchOption}
 use Rattle.std.proofs.lemmas.Bool.{eq-eqb, or_right}
 use Rattle.std.proofs.lemmas.List.Elements.{All-append, All-nil}
@@ -8,12 +8,12 @@ use Rattle.hb_lemmas.proofs.Options.{not_none, some_value}
 use Rattle.hb_disk.specs.Model.{DiskModel}
 use Rattle.hb_disk.specs.Untold.{untold_of}
 use Rattle.hb_layout.specs.declared.meta.Meta.{Meta}
-use Rattle.hb_wal.specs.Log.{LogState, Waiting}
+use Rattle.hb_wal.specs.Log.{IsMarkedTo, LogState, Waiting}
 use Rattle.hb_ops.specs.declared.operations.Op.{Op}
 use Rattle.hb_ops.specs.Files.{FileState, last_of}
 use Rattle.hb_ops.specs.Operations.{IsLicensed, reads_of}
 use Rattle.hb_ops.proofs.Facts.AllowedOps.{reads_some}
-use Rattle.hb_pool.specs.Frames.{Use, has_id, must_stay, pinned}
+use Rattle.hb_pool.specs.Frames.{IsStaying, Use, has_id, pinned}
 use Rattle.hb_pool.specs.Pools.{frame_of, put_last}
 use Rattle.hb_store.specs.Calls.{Commits, Fetched, HasFrameFor, HasPlaces, IsAllowedHere, numbers_changed, use_changed, use_fetched}
 use Rattle.hb_store.specs.States.{IsNew, StoreState, in_memory}
@@ -29,9 +29,6 @@ use Rattle.hb_file_tests.proofs.Staying.{changed_stay, fetched_all, fetched_fram
 
 pub licensed : (size reads writes : ℕ) (st : StoreState) (op : Op) (durable : FileState) (later : List FileState) → StoreKeeps (untold_of size reads writes) st durable later → IsLicensed (last_of durable later) op
 licensed size reads writes st op durable later keeps = let told : false ≡ true = keeps.disk.told in absurd cc
-
-abbrev IsEarly : Waiting → Type 0
-IsEarly g = g.mark ≤ 7
 
 -- ---- frames and pages
 
@@ -51,8 +48,8 @@ new_uses turn meta st uses new tied = no_frames uses (λ id. no_frame st uses id
 pub new_driven : (turn : ℕ) (meta : Meta) (st : StoreState) (uses : List Use) → IsNew turn meta st → IsTied st uses → IsDrivenHere st uses
 new_driven turn meta st uses new tied = record {
   running = new.running;
-  marks = subst (λ (log : LogState). All IsEarly log.groups) (sym new.log_is) (All-nil IsEarly);
-  stay = subst AllStay (sym (new_uses turn meta st uses new tied)) (All-nil (λ (u : Use). IsTrue (must_stay u)));
+  marks = subst (λ (log : LogState). All (IsMarkedTo 7) log.groups) (sym new.log_is) (All-nil (IsMarkedTo 7));
+  stay = subst AllStay (sym (new_uses turn meta st uses new tied)) (All-nil IsStaying);
 }
 
 pub new_few : (uses : List Use) → uses ≡ [] → FewPins uses
@@ -66,7 +63,7 @@ same_driven st new uses after same order driven = subst (λ (s : StoreState). Is
 fetched_driven : (id : ℕ) (st new : StoreState) (uses after : List Use) → Fetched id st new → AllStay after → IsDrivenHere st uses → IsDrivenHere new after
 fetched_driven id st new uses after fetched stay driven = record {
   running = ap (λ (s : StoreState). s.stopped) fetched.rest ∙ driven.running;
-  marks = subst (λ (log : LogState). All IsEarly log.groups) (sym (ap (λ (s : StoreState). s.log) fetched.rest)) driven.marks;
+  marks = subst (λ (log : LogState). All (IsMarkedTo 7) log.groups) (sym (ap (λ (s : StoreState). s.log) fetched.rest)) driven.marks;
   stay = stay;
 }
 
@@ -111,15 +108,15 @@ has_place op st uses tied driven allowed places = record {
   reads = λ id among.
       let some = among_all (λ q. IsSome (in_memory st q)) (reads_of op) id (reads_some op st.meta (in_memory st) allowed) among in
       let f = some_value (frame_of uses id) (framed st uses id tied some) in
-      let Q : Option Use → Type 0 = λ o. IsSomeAnd o (λ (u : Use). IsTrue (must_stay u)) in
-      subst Q (sym f.1) (found_all (λ (u : Use). IsTrue (must_stay u)) (has_id id) uses f.0 driven.stay f.1);
+      let Q : Option Use → Type 0 = λ o. IsSomeAnd o IsStaying in
+      subst Q (sym f.1) (found_all IsStaying (has_id id) uses f.0 driven.stay f.1);
   place = λ id made none. omega (arith, places);
 }
 
 pub committed : (op : Op) (st new : StoreState) (uses after : List Use) → Commits op 7 st new → after ≡ use_changed (numbers_changed st op) uses → IsDrivenHere st uses → IsDrivenHere new after
 committed op st new uses after commits order driven = record {
   running = commits.stopped ∙ driven.running;
-  marks = subst (All IsEarly) (sym commits.groups) (All-append IsEarly st.log.groups (record { bytes = commits.group; mark = 7 } ∷ []) driven.marks (All-alone IsEarly (record { bytes = commits.group; mark = 7 }) (omega arith)));
+  marks = subst (All (IsMarkedTo 7)) (sym commits.groups) (All-append (IsMarkedTo 7) st.log.groups (record { bytes = commits.group; mark = 7 } ∷ []) driven.marks (All-alone (IsMarkedTo 7) (record { bytes = commits.group; mark = 7 }) (omega arith)));
   stay = subst AllStay (sym order) (changed_stay (numbers_changed st op) uses driven.stay);
 }
 
@@ -140,7 +137,7 @@ pub forced : (st new : StoreState) (uses after : List Use) → new ≡ forced_st
 forced st new uses after same order driven =
     subst (λ (s : StoreState). IsDrivenHere s after) (sym same) (subst (λ (l : List Use). IsDrivenHere (forced_state st) l) (sym order) (record {
       running = driven.running;
-      marks = All-nil IsEarly;
+      marks = All-nil (IsMarkedTo 7);
       stay = driven.stay;
     }))
 
@@ -148,9 +145,9 @@ home_runs : (d e : DiskModel) (old new : StoreHeld) → FlushesHome (Ok tt) d e 
 home_runs d e old new home runs = by (oldest_dirty old.uses) home
   where
     by : (o : Option ℕ) → MatchOption o (FlushesClean (Ok tt) d e old new) (λ id. WritesHome (Ok tt) id d e old new) → new.state.stopped ≡ false
-    by None (inl (some, switches)) = ap (λ (h : StoreHeld). h.state.stopped) switches.switched ∙ runs
+    by None (inl (some, switches)) = ap (λ (h : StoreHeld). h.state.stopped) switches.done ∙ runs
     by None (inr (empty, ok, reads, same)) = ap (λ (h : StoreHeld). h.state.stopped) same ∙ runs
-    by (Some id) writes = ap (λ (h : StoreHeld). h.state.stopped) writes.cleaned ∙ runs
+    by (Some id) writes = ap (λ (h : StoreHeld). h.state.stopped) writes.done ∙ runs
 
 pub flushed_runs : (d e : DiskModel) (old new : StoreHeld) → (old.state.log.groups ≢ [] → WritesGroups (Ok tt) d e old.state new.state × (new.uses ≡ old.uses)) → (old.state.log.groups ≡ [] → FlushesHome (Ok tt) d e old new)
     → old.state.stopped ≡ false → new.state.stopped ≡ false

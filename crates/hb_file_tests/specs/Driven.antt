@@ -1,12 +1,13 @@
 -- What the tests keep of a store that they drive.
-use Rattle.std.specs.Prelude.{◌≡◌, ℕ, ◌<◌, ◌≤◌, false, All, IsSome, IsSomeAnd, IsTrue, List}
-use Rattle.hb_pool.specs.Frames.{Use, must_stay}
+use Rattle.std.specs.Prelude.{◌≡◌, ℕ, ◌<◌, ◌≤◌, false, All, IsSome, IsSomeAnd, List}
+use Rattle.hb_wal.specs.Log.{IsMarkedTo}
+use Rattle.hb_pool.specs.Frames.{IsStaying, Use}
 use Rattle.hb_pool.specs.Pools.{frame_of}
 use Rattle.hb_store.specs.States.{StoreState}
 
 -- each page in memory is dirty or pinned
 abbrev pub AllStay : List Use → Type 0
-AllStay uses = All (λ (u : Use). IsTrue (must_stay u)) uses
+AllStay uses = All IsStaying uses
 
 -- no page is pinned more than once
 abbrev pub FewPins : List Use → Type 0
@@ -19,7 +20,7 @@ IsPinned uses id = IsSomeAnd (frame_of uses id) (λ (u : Use). 0 < u.pins)
 -- The store runs, no group that waits has a later mark than 7, and each page in memory stays.
 pub record IsDrivenHere (st : StoreState) (uses : List Use) : Type 0 where
   pub running : st.stopped ≡ false
-  pub marks : All (λ g. g.mark ≤ 7) st.log.groups
+  pub marks : All (IsMarkedTo 7) st.log.groups
   pub stay : AllStay uses
 
 -- Page 1 is in memory, and pinned.
@@ -30,5 +31,5 @@ pub record HoldsFirst (uses : List Use) : Type 0 where
 -- The store runs, no group that waits has a later mark than 7, and page 1 stays, dirty or not.
 pub record IsDrivenOnFirst (st : StoreState) (uses : List Use) : Type 0 where
   pub running : st.stopped ≡ false
-  pub marks : All (λ g. g.mark ≤ 7) st.log.groups
+  pub marks : All (IsMarkedTo 7) st.log.groups
   pub first : HoldsFirst uses

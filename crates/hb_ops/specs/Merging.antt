@@ -32,12 +32,10 @@ pub record MayMerge (parent keep : LivePage) (gone_id : ℕ) (gone : LivePage) (
 abbrev pub NamesBoth : LivePage → ℕ → LivePage → ℕ → LivePage → Type 0
 NamesBoth above keep kept gone going = ((kept.level + 1 ≡ above.level) × (going.level + 1 ≡ above.level)) × (Contains (leaves above.frag) (Child keep) × Contains (leaves above.frag) (Child gone))
 
--- Three pages of different numbers, all well made, of which the parent is one level above the two others and names both, where
--- these may become one.
-pub record FitsMerge (meta : Meta) (parent keep gone : ℕ) (above kept going : LivePage) : Type 0 where
+-- Three pages of different numbers, all well made, of which the parent is one level above the two others and names both.
+pub record ArePagesToMerge (meta : Meta) (parent keep gone : ℕ) (above kept going : LivePage) : Type 0 where
   pub others : (parent ≢ keep) × (parent ≢ gone)
   pub two : keep ≢ gone
-  pub some_live : 1 ≤ meta.live
   pub above_made : FitsFile meta above
   pub kept_made : FitsFile meta kept
   pub gone_made : FitsFile meta going
@@ -45,6 +43,11 @@ pub record FitsMerge (meta : Meta) (parent keep gone : ℕ) (above kept going : 
   pub gone_level : going.level + 1 ≡ above.level
   pub names_kept : Contains (leaves above.frag) (Child keep)
   pub names_gone : Contains (leaves above.frag) (Child gone)
+
+-- Such pages, of which the two others may become one.
+pub record FitsMerge (meta : Meta) (parent keep gone : ℕ) (above kept going : LivePage) : Type 0 where
+  pub pages : ArePagesToMerge meta parent keep gone above kept going
+  pub some_live : 1 ≤ meta.live
   pub may : MayMerge above kept gone going (capacity_of kept.level meta.dcap meta.icap)
 
 -- The page to keep afterwards: what the page to go has stands where its first sibling leaf to that page stood, without cuts

@@ -63,7 +63,7 @@ best_of_six = record {
         (each_value value (subst (λ (a : ℕ). Any (λ (r : Record). slice_index r.key a ≡ value) of_six) none may.met))
 
 six_chosen : AreChosen 6 1 (at_forty ∷ []) six_records.frag
-six_chosen = (record { records = of_six; leaf = refl; heavy = omega arith; best = best_of_six; side = refl }, omega arith)
+six_chosen = (record { records = of_six; leaf = refl; heavy = omega arith; best = record { plane = best_of_six; side = refl } }, omega arith)
 
 chosen_of_six : IsChosen six_records [] (at_forty ∷ [])
 chosen_of_six = record {

@@ -1,5 +1,5 @@
 -- What a pool shows of a page that is in memory, and what a call makes of it.
-use Rattle.std.specs.Prelude.{ℕ, ◌+◌, ◌-◌, ◌==◌, Bool, true, false, not, ◌||◌}
+use Rattle.std.specs.Prelude.{ℕ, ◌+◌, ◌-◌, ◌==◌, Bool, true, false, not, ◌||◌, IsTrue}
 
 -- `B` is what is told of the page's bytes: the bytes themselves, or nothing where the order of use alone counts.
 pub record Frame (B : Type 0) : Type 0 where
@@ -25,6 +25,9 @@ has_id id f = f.id == id
 -- it is dirty or pinned
 abbrev pub must_stay : {B : Type 0} → Frame B → Bool
 must_stay f = f.dirty || not (f.pins == 0)
+
+abbrev pub IsStaying : {B : Type 0} → Frame B → Type 0
+IsStaying f = IsTrue (must_stay f)
 
 -- it is clean and not pinned
 abbrev pub may_go : {B : Type 0} → Frame B → Bool

@@ -1,12 +1,12 @@
 -- What follows of pools from the definitions alone, whatever is told of the pages' bytes.
-use Rattle.std.specs.Prelude.{◌≡◌, ◌≢◌, ℕ, ◌+◌, ◌<◌, ◌≤◌, Bool, cond, IsTrue, Some, None, option_map, List, [], ◌∷◌, ◌++◌, length, map, find}
+use Rattle.std.specs.Prelude.{◌≡◌, ◌≢◌, ℕ, ◌+◌, ◌<◌, ◌≤◌, Bool, cond, Some, None, option_map, List, [], ◌∷◌, ◌++◌, length, map, find}
 use Rattle.hb_pool.specs.declared.pools.TheConstants.{FRAMES}
-use Rattle.hb_pool.specs.Frames.{Frame, Use, must_stay, fresh, use_of}
+use Rattle.hb_pool.specs.Frames.{Frame, IsStaying, Use, must_stay, fresh, use_of}
 use Rattle.hb_pool.specs.Pools.{IsPool, frame_of, places, brought}
 
 -- a page that is dirty or pinned stays when another one comes in, whatever comes in
 abbrev pub MarkedPagesStay : Type 0 → Type 0
-MarkedPagesStay B = (pool : List (Frame B)) (id other : ℕ) (bytes : B) (dirty : Bool) (f : Frame B) → frame_of pool other ≡ Some f → IsTrue (must_stay f) → frame_of (brought id bytes dirty pool) other ≡ Some f
+MarkedPagesStay B = (pool : List (Frame B)) (id other : ℕ) (bytes : B) (dirty : Bool) (f : Frame B) → frame_of pool other ≡ Some f → IsStaying f → frame_of (brought id bytes dirty pool) other ≡ Some f
 
 -- while a frame is empty no page goes
 abbrev pub NoneGoesBeforeAllAreUsed : Type 0 → Type 0

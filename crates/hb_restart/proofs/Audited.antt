@@ -25,7 +25,7 @@ use Rattle.hb_sound.specs.Told.{IsHole, IsWholeFile, file_of, shown_pages}
 use Rattle.hb_store.specs.States.{IsSameLayout}
 use Rattle.hb_store.specs.Opening.{IsPageIn, Shows, place_bytes}
 use Rattle.hb_store.specs.Replay.{Replayed, untouched, replay}
-use Rattle.hb_restart.specs.Refusals.{IsRefusal, IsShut, LogSays, IsUnsound, LacksPage, RefusesBytes}
+use Rattle.hb_restart.specs.Refusals.{IsRefusal, IsShut, IsUnsound, LacksPage, RefusesBytes}
 use Rattle.hb_restart.specs.Found.{IsFoundIn, IsReadIn, audit_fault, touched_pages}
 use Rattle.hb_restart.specs.Source.{touched_or, page_there, pages_from, told_pages}
 use Rattle.hb_restart.specs.declared.faults.OpenFault.{OpenFault}
@@ -138,9 +138,6 @@ module _ (exact : PagesAreExact) (b : List ℕ) (are : AreBytes b) (read : LogRe
   abbrev last : Replayed
   last = replay (untouched read.said) is.log.groups
 
-  log_read : LogSays b read.turn read.said is.log.groups
-  log_read = record { payloads = is.log.payloads; framed = is.log.framed; spelled = is.log.spelled; replayed = is.log.replayed }
-
   shows_all : IsWholeFile says all → Shows b read.said last (file_of says all)
   shows_all whole = shows_told exact b are read.said says same log_has last is.log.meta_is is.log.pages_are layout.some_pages whole
 
@@ -156,9 +153,7 @@ module _ (exact : PagesAreExact) (b : List ℕ) (are : AreBytes b) (read : LogRe
       by = record {
         newest = is.has.newest;
         fits = is.has.fits;
-        framed = is.log.framed;
-        spelled = is.log.spelled;
-        replayed = is.log.replayed;
+        log = is.log.log;
         shows = shows_all sound.0;
       };
       touched_is = λ id. sym (is.log.pages_are id);
@@ -168,7 +163,7 @@ module _ (exact : PagesAreExact) (b : List ℕ) (are : AreBytes b) (read : LogRe
   }
 
   pub names_unsound : (page rule : ℕ) → Names says all page rule → RefusesBytes (faults.Unsound page rule) b
-  names_unsound page rule names = (read.turn, read.said, is.has, is.log.groups, log_read, by names)
+  names_unsound page rule names = (read.turn, read.said, is.has, is.log.groups, (is.log.payloads, is.log.log), by names)
     where
       lacks : (id : ℕ) → IsHole says all id → LacksPage b read.said last id
       lacks id hole = hole_lacks exact b are read.said says same log_has last is.log.meta_is is.log.pages_are id hole

@@ -11,9 +11,9 @@ use Rattle.hb_ops.specs.Files.{FileState}
 use Rattle.hb_ops.specs.Operations.{change_of}
 use Rattle.hb_ops.specs.Sound.{IsSound}
 use Rattle.hb_log_codec.specs.Groups.{Logged}
-use Rattle.hb_store.proofs.Facts.Spellings.{OneList, same_spelled}
+use Rattle.hb_store.proofs.Facts.Spellings.{OneList, one_log}
 use Rattle.hb_layout.specs.Offsets.{file_size}
-use Rattle.hb_store.specs.Opening.{OpensBy, OpensTo, IsPageIn, Shows, log_bytes, SpellAll, OpensToOne, OpensWhole}
+use Rattle.hb_store.specs.Opening.{OpensBy, OpensTo, IsPageIn, Shows, OpensToOne, OpensWhole}
 use Rattle.hb_store.specs.Replay.{Replayed, untouched, replay, after_group}
 use Rattle.hb_restart.specs.Refusals.{IsUnsound, GoodIsNotRefused, HasLayout, LogSays, LacksPage}
 use Rattle.hb_ops.proofs.Facts.FilePages.{page_there}
@@ -55,14 +55,12 @@ pub opens_so : (b : List ℕ) (turn : ℕ) (said : Meta) (groups : List Logged) 
 opens_so b turn said groups s layout log shows = record {
   turn = turn;
   said = said;
-  payloads = log.payloads;
+  payloads = log.0;
   groups = groups;
   by = record {
     newest = layout.newest;
     fits = layout.fits;
-    framed = log.framed;
-    spelled = log.spelled;
-    replayed = log.replayed;
+    log = log.1;
     shows = shows;
   };
 }
@@ -77,8 +75,7 @@ module _ (once : OneList) (turns : (bytes : List ℕ) (t s : ℕ) (m n : Meta) �
       let m : opens.said ≡ said = saids b opens.turn turn opens.said said by.newest layout.newest in
       let here : OpensBy b turn said opens.payloads opens.groups s =
       subst (λ (x : Meta). OpensBy b turn x opens.payloads opens.groups s) m (subst (λ (x : ℕ). OpensBy b x opens.said opens.payloads opens.groups s) t by) in
-      let payloads : opens.payloads ≡ log.payloads = (one_way (log_bytes turn said b)).frames opens.payloads log.payloads here.framed log.framed in
-      let same : opens.groups ≡ groups = same_spelled once said.k log.payloads opens.groups groups (subst (λ (x : List (List ℕ)). SpellAll said.k x opens.groups) payloads here.spelled) log.spelled in
+      let same : opens.groups ≡ groups = (one_log once one_way b turn said opens.payloads log.0 opens.groups groups here.log log.1).1 in
       subst (λ (x : List Logged). Shows b said (replay (untouched said) x) s) same here.shows
 
   unsound : (b : List ℕ) (s : FileState) (turn : ℕ) (said : Meta) (groups : List Logged) (page rule : ℕ) → OpensTo b s → IsSound s → HasLayout b turn said → LogSays b turn said groups → IsUnsound b said groups page rule → ⊥

@@ -5,15 +5,15 @@ use Rattle.hb_super.specs.Superblocks.{IsNewest, HasNone}
 use Rattle.hb_layout.specs.declared.meta.Meta.{Meta}
 use Rattle.hb_ops.specs.Files.{FileState}
 use Rattle.hb_log_codec.specs.Groups.{Logged}
-use Rattle.hb_store.proofs.Facts.Spellings.{OneList, same_spelled}
+use Rattle.hb_store.proofs.Facts.Spellings.{OneList, one_log}
 use Rattle.hb_layout.specs.Offsets.{file_size}
-use Rattle.hb_store.specs.Opening.{HasBadGroup, log_bytes, SpellAll, OpensToOne}
+use Rattle.hb_store.specs.Opening.{HasBadGroup, OpensToOne}
 use Rattle.hb_store.specs.Replay.{untouched, replay}
 use Rattle.hb_sound.specs.Names.{NamesIn, OneIsNamed}
 use Rattle.hb_restart.specs.Refusals.{RefusesBytes, IsUnwritten, IsSmall, IsUnsound, HasLayout, LogSays, LacksPage}
 use Rattle.hb_restart.specs.declared.faults.OpenFault.{OpenFault}
 use Rattle.hb_restart.specs.declared.faults.OpenFault.TheVariants as faults
-use Rattle.hb_store.proofs.Facts.BadGroups.{not_both, one_bad_group}
+use Rattle.hb_store.proofs.Facts.BadGroups.{no_bad_group, one_bad_group}
 use Rattle.hb_restart.proofs.NotRefused.{least_size, opens_so}
 use Rattle.hb_sound.proofs.Facts.LeastLaws.{least_one}
 
@@ -49,9 +49,7 @@ module _ (once : OneList) (turns : (bytes : List ℕ) (t s : ℕ) (m n : Meta) �
   moved P t s m n x y p = subst (λ (k : Meta). P s k) (saids b t s m n x.newest y.newest) (subst (λ (k : ℕ). P k m) (turns b t s m n x.newest y.newest) p)
 
   same_groups_of : (turn : ℕ) (said : Meta) (xs ys : List Logged) → LogSays b turn said xs → LogSays b turn said ys → xs ≡ ys
-  same_groups_of turn said xs ys x y =
-      let payloads : x.payloads ≡ y.payloads = (one_way (log_bytes turn said b)).frames x.payloads y.payloads x.framed y.framed in
-      same_spelled once said.k y.payloads xs ys (subst (λ (l : List (List ℕ)). SpellAll said.k l xs) payloads x.spelled) y.spelled
+  same_groups_of turn said xs ys x y = (one_log once one_way b turn said x.0 y.0 xs ys x.1 y.1).1
 
   unsound_same : (turn : ℕ) (said : Meta) (groups : List Logged) (p q r t : ℕ) → HasLayout b turn said → LogSays b turn said groups
       → IsUnsound b said groups p r → IsUnsound b said groups q t → (p ≡ q) × (r ≡ t)
@@ -74,10 +72,7 @@ module _ (once : OneList) (turns : (bytes : List ℕ) (t s : ℕ) (m n : Meta) �
   bad_same t s m n f g x y bad_f bad_g = one_bad_group once b s n f g (moved (λ k said. HasBadGroup b k said f) t s m n x y bad_f) bad_g
 
   bad_not : (t s : ℕ) (m n : Meta) (f : ℕ) (groups : List Logged) → HasLayout b t m → HasLayout b s n → HasBadGroup b t m f → LogSays b s n groups → ⊥
-  bad_not t s m n f groups x y bad log =
-      let here : HasBadGroup b s n f = moved (λ k said. HasBadGroup b k said f) t s m n x y bad in
-      not_both once n.k (untouched n) log.payloads here.before log.framed.rest here.rest groups here.groups (sym log.framed.bytes ∙ here.framed) log.framed.payloads_fit here.payloads_fit log.framed.at_end
-      log.spelled here.spelled log.replayed here.bad
+  bad_not t s m n f groups x y bad log = no_bad_group once b s n log.0 groups f log.1 (moved (λ k said. HasBadGroup b k said f) t s m n x y bad)
 
   pub refused_once : (f g : OpenFault) → RefusesBytes f b → RefusesBytes g b → IsUnwritten f → IsUnwritten g → f ≡ g
   refused_once faults.DiskFault g x y u v = absurd u

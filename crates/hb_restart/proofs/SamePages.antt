@@ -8,9 +8,9 @@ use Rattle.hb_layout.specs.declared.meta.Meta.{Meta}
 use Rattle.hb_log_codec.specs.Groups.{Logged}
 use Rattle.hb_ops.specs.Files.{FileState}
 use Rattle.hb_super.specs.Superblocks.{IsNewest}
-use Rattle.hb_wal.specs.Frames.{ReadsOneWay, HasFrames}
-use Rattle.hb_store.proofs.Facts.Spellings.{OneList, same_spelled}
-use Rattle.hb_store.specs.Opening.{log_bytes, SpellAll}
+use Rattle.hb_wal.specs.Frames.{ReadsOneWay}
+use Rattle.hb_store.proofs.Facts.Spellings.{OneList, one_log}
+use Rattle.hb_store.specs.Opening.{HasGroups}
 use Rattle.hb_store.specs.Replay.{Replayed, untouched, replay}
 use Rattle.hb_store.specs.Turning.{StillOpens}
 use Rattle.hb_restart.specs.Found.{IsFoundIn}
@@ -26,11 +26,9 @@ module _ (once : OneList) (turns : (bytes : List ℕ) (t s : ℕ) (m n : Meta) �
 
     groups_same : x.groups ≡ y.groups
     groups_same =
-        let framed : HasFrames (log_bytes s n b) x.payloads =
-        subst (λ (q : Meta). HasFrames (log_bytes s q b) x.payloads) said_same (subst (λ (k : ℕ). HasFrames (log_bytes k m b) x.payloads) (turns b t s m n x.by.newest y.by.newest) x.by.framed) in
-        let payloads : x.payloads ≡ y.payloads = (one_way (log_bytes s n b)).frames x.payloads y.payloads framed y.by.framed in
-        let spelled : SpellAll n.k x.payloads x.groups = subst (λ (q : Meta). SpellAll q.k x.payloads x.groups) said_same x.by.spelled in
-        same_spelled once n.k y.payloads x.groups y.groups (subst (λ (l : List (List ℕ)). SpellAll n.k l x.groups) payloads spelled) y.by.spelled
+        let log : HasGroups b s n x.payloads x.groups =
+        subst (λ (q : Meta). HasGroups b s q x.payloads x.groups) said_same (subst (λ (k : ℕ). HasGroups b k m x.payloads x.groups) (turns b t s m n x.by.newest y.by.newest) x.by.log) in
+        (one_log once one_way b s n x.payloads y.payloads x.groups y.groups log y.by.log).1
 
     replay_same : replay (untouched m) x.groups ≡ replay (untouched n) y.groups
     replay_same = ap (λ (q : Meta). replay (untouched q) x.groups) said_same ∙ ap (λ (l : List Logged). replay (untouched n) l) groups_same

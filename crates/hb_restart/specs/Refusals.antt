@@ -2,7 +2,6 @@
 use Rattle.std.specs.Prelude.{◌≡◌, ◌⊎◌, ℕ, ◌*◌, ◌≤◌, ◌<◌, List, length, None, IfSome}
 use Rattle.hb_space.specs.declared.form.TheConstants.{PAGE}
 use Rattle.hb_disk.specs.Model.{DiskModel}
-use Rattle.hb_wal.specs.Frames.{HasFrames}
 use Rattle.hb_super.specs.Superblocks.{IsNewest, HasNone}
 use Rattle.hb_frag.specs.declared.pages.Page.{Page}
 use Rattle.hb_frag.specs.Grammar.{SpellsPage}
@@ -13,8 +12,8 @@ use Rattle.hb_ops.specs.Files.{FileState}
 use Rattle.hb_ops.specs.Sound.{IsSound}
 use Rattle.hb_sound.specs.Names.{NamesIn}
 use Rattle.hb_sound.specs.Walks.{IsLeast}
-use Rattle.hb_store.specs.Opening.{HasBadGroup, OpensTo, Shows, log_bytes, place_bytes, SpellAll}
-use Rattle.hb_store.specs.Replay.{Replayed, untouched, replay, MayReplay}
+use Rattle.hb_store.specs.Opening.{HasBadGroup, HasGroups, OpensTo, Shows, place_bytes}
+use Rattle.hb_store.specs.Replay.{Replayed, untouched, replay}
 use Rattle.hb_restart.specs.declared.faults.OpenFault.{OpenFault}
 use Rattle.hb_restart.specs.declared.faults.OpenFault.TheVariants as faults
 
@@ -24,11 +23,8 @@ pub record HasLayout (bytes : List ℕ) (turn : ℕ) (said : Meta) : Type 0 wher
   pub fits : file_size said ≤ length bytes
 
 -- what the log of a file gives, where it has no bad frame
-pub record LogSays (bytes : List ℕ) (turn : ℕ) (said : Meta) (groups : List Logged) : Type 0 where
-  pub payloads : List (List ℕ)
-  pub framed : HasFrames (log_bytes turn said bytes) payloads
-  pub spelled : SpellAll said.k payloads groups
-  pub replayed : MayReplay (untouched said) groups
+abbrev pub LogSays : List ℕ → ℕ → Meta → List Logged → Type 0
+LogSays bytes turn said groups = (payloads : List (List ℕ)) × HasGroups bytes turn said payloads groups
 
 -- a number up to the highest page beyond the pages that the file may have, or of a page that the log doesn't touch, where
 -- the bytes in its place are none

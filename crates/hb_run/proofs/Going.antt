@@ -15,6 +15,7 @@ use Rattle.hb_core.specs.Runs.{HasRun, RunningLaws, has_none, left_count, withou
 use Rattle.hb_core.specs.Showing.{RunningCore, ShowsMachine}
 use Rattle.hb_core.specs.Steps.{StepsTo}
 use Rattle.hb_core.specs.Touching.{Touches}
+use Rattle.hb_core.specs.Relied.{MayTakeSteps}
 use Rattle.hb_core.specs.Working.{MayStep}
 use Rattle.hb_core.proofs.Facts.RunSteps.{may_go_on, run_begins, run_by_step, run_of_step}
 use Rattle.hb_drive.proofs.Facts.AnswerTexts.{has_put_none, puts_given}
@@ -22,7 +23,7 @@ use Rattle.hb_run.specs.Beginnings.{Beginning}
 use Rattle.hb_run.specs.Courses.{Course, KeepsRun, ShowsLeft, TakesTurn}
 
 -- a machine from which the core goes on
-pub may_turn : (b : Beginning) (c : Course) → KeepsRun b c → (m : Machine) × MayStep c.disk c.core m
+pub may_turn : (b : Beginning) (c : Course) → KeepsRun b c → MayTakeSteps c.disk c.core
 may_turn b c keeps =
     let run = keeps.runs keeps.begun.0 keeps.begun.1 in
     (run.new, may_go_on b.disk keeps.begun.0 keeps.actors c.answers c.disk c.core run)
@@ -101,7 +102,7 @@ goes_on laws b actor outcome old new may disk disk_next keeps turn = record {
 
 -- ---- it begins
 
-pub begins : (laws : RunningLaws) (b : Beginning) (answers : List Answered) (room left : ℕ) → IsDisk b.disk → ((m : Machine) × MayStep b.disk b.core m) → answers ≡ [] → ((m : Machine) → MayStep b.disk b.core m → left ≡ left_count m)
+pub begins : (laws : RunningLaws) (b : Beginning) (answers : List Answered) (room left : ℕ) → IsDisk b.disk → MayTakeSteps b.disk b.core → answers ≡ [] → ((m : Machine) → MayStep b.disk b.core m → left ≡ left_count m)
     → KeepsRun b (record { disk = b.disk; core = b.core; sink = b.sink; put = Ok (tt {0}); answers = answers; room = room; left = left })
 begins laws b answers room left disk may none left_is = record {
   begun = may;

@@ -13,6 +13,7 @@ use Rattle.hb_core.specs.Runs.{HasRun, left_count}
 use Rattle.hb_core.specs.Showing.{RunningCore, ShowsMachine}
 use Rattle.hb_core.specs.Steps.{StepsTo}
 use Rattle.hb_core.specs.Touching.{Touches}
+use Rattle.hb_core.specs.Relied.{MayTakeSteps}
 use Rattle.hb_core.specs.Working.{MayStep}
 use Rattle.hb_run.specs.Beginnings.{Beginning}
 
@@ -36,7 +37,7 @@ pub record ShowsLeft (d : DiskModel) (c : RunningCore) (left : ℕ) : Type 0 whe
 -- What the lock keeps. Steps of some actors led from each machine of the beginning to one that the core shows now, with these answers,
 -- and their text was put; the lines without an answer are counted.
 pub record KeepsRun (b : Beginning) (c : Course) : Type 0 where
-  pub begun : (m : Machine) × MayStep b.disk b.core m
+  pub begun : MayTakeSteps b.disk b.core
   pub actors : List ℕ
   pub runs : (m : Machine) → MayStep b.disk b.core m → HasRun b.disk m actors c.answers c.disk c.core
   pub text : Puts (flat_map answer_text c.answers) c.put b.sink c.sink

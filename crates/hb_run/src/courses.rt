@@ -3,9 +3,8 @@ ghost use Rattle.std.specs.Prelude.{◌≡◌, ◌≢◌, ◌⊎◌, ◌≤◌, 
 ghost use Rattle.std.specs.List.{slice_get};
 ghost use Rattle.hb_core.specs.CoreSeen.{core_seen, core_disk};
 ghost use Rattle.hb_core.specs.declared.outcomes.Outcome.{Outcome};
-ghost use Rattle.hb_core.specs.Machines.{Machine};
 ghost use Rattle.hb_core.specs.Performing.{given_by};
-ghost use Rattle.hb_core.specs.Working.{MayStep};
+ghost use Rattle.hb_core.specs.Relied.{MayTakeSteps};
 ghost use Rattle.hb_run.specs.Courses.{ShowsLeft, TakesTurn};
 ghost use Rattle.hb_run.specs.declared.turns.Turn.TheVariants as turns;
 ghost use Rattle.hb_run.specs.Turning.{CountsMove, GoesWell, IsNews, WakesAll, is_done, is_due, is_more, is_so, jobs_left, round_of, settled_of, still_waits, turn_of};
@@ -53,7 +52,7 @@ impl<D: Disk, K: Sink> Course<D, K> {
     /// What an actor does under one hold of the lock: one step of the core, or none where who flushes has nothing to do. It tells what the
     /// actor does then, and who else has to look again.
     pub(crate) fn take_turn(&mut self, seat: &Seat) -> (Next, News)
-        requires { (m : Machine) × MayStep (D.model (core_disk self.old.core)) (core_seen self.old.core) m }
+        requires { MayTakeSteps (D.model (core_disk self.old.core)) (core_seen self.old.core) }
         ensures turn { (self.new ≡ self.old) ⊎ ((outcome : Outcome) × TakesTurn seat.now.actor outcome (course_seen D.model K.model self.old) (course_seen D.model K.model self.new)) }
         ensures next { GoesWell seat.now.actor result.0 self.new.roster.moves (course_seen D.model K.model self.new) }
         ensures wakes { WakesAll result.1 self.old.roster (course_seen D.model K.model self.old) self.new.roster (course_seen D.model K.model self.new) }
@@ -75,7 +74,7 @@ impl<D: Disk, K: Sink> Course<D, K> {
 
     /// One step of the core. The answer that it gives is kept with the clock after it, and its lines are put unless a put failed before.
     pub(crate) fn turn(&mut self, seat: &Seat) -> Turn
-        requires { (m : Machine) × MayStep (D.model (core_disk self.old.core)) (core_seen self.old.core) m }
+        requires { MayTakeSteps (D.model (core_disk self.old.core)) (core_seen self.old.core) }
         ensures turn { (outcome : Outcome) × TakesTurn seat.now.actor outcome (course_seen D.model K.model self.old) (course_seen D.model K.model self.new) × (result ≡ turn_of outcome) }
         ensures counts { CountsMove (seat.now.actor - 1) (is_more result) self.old.roster.moves self.new.roster.moves }
         ensures another { result ≡ turns.More → slice_get self.new.roster.moves (seat.now.actor - 1) ≢ slice_get self.old.roster.moves (seat.now.actor - 1) }

@@ -7,8 +7,7 @@
 
 ghost use Rattle.std.specs.Prelude.{◌≡◌, ◌≤◌, [], IfOk, length, vec_capacity};
 ghost use Rattle.hb_core.specs.CoreSeen.{core_seen, core_disk};
-ghost use Rattle.hb_core.specs.Machines.{Machine};
-ghost use Rattle.hb_core.specs.Working.{MayStep};
+ghost use Rattle.hb_core.specs.Relied.{MayTakeSteps};
 ghost use Rattle.hb_drive.specs.Driving.{LeavesRun};
 ghost use Rattle.hb_run.specs.Running.{RunsTo};
 
@@ -52,7 +51,7 @@ pub fn run<R: Threads + Wait + Sync, D: Disk + Send, K: Sink + Send, G: Gate + S
     sink: K,
     gate: &G,
 ) -> Ran<D, K>
-    requires may { (m : Machine) × MayStep (D.model (core_disk core)) (core_seen core) m }
+    requires may { MayTakeSteps (D.model (core_disk core)) (core_seen core) }
     ensures { LeavesRun (λ m. RunsTo m result.answered.items (D.model (core_disk core)) (D.model (core_disk result.core)) (core_seen result.core) result.end (K.model sink) (K.model result.sink))
         D.model K.model core sink result }
 {

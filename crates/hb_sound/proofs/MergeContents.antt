@@ -120,11 +120,11 @@ module _ (s t : FileState) (parent keep gone : ℕ) (m : IsMerged s t parent kee
   new = kept_page gone kept going
 
   same_level : kept.level ≡ going.level
-  same_level = omega (arith, m.fits.kept_level, m.fits.gone_level)
+  same_level = omega (arith, m.fits.pages.kept_level, m.fits.pages.gone_level)
 
   -- the parent has no record
   high : (level : ℕ) → level ≡ m.changes.above.level → level ≡ 0 → ⊥
-  high level is on = absurd (omega (arith, is, on, m.fits.kept_level))
+  high level is on = absurd (omega (arith, is, on, m.fits.pages.kept_level))
 
   pub record_stays : (r : Record) → HasRecord s r → HasRecord t r
   record_stays r h = elim (cases_eq h.id keep) [

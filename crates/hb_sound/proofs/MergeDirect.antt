@@ -60,7 +60,7 @@ module _ (trees : TreeLaws) (laws : MergeLaws) (s t : FileState) (parent keep go
     point_now = record { point = point.point; attributes = point.attributes ∙ ap (λ (meta : Meta). meta.k) (sym m.meta) }
 
     low : level < s.meta.height
-    low = m.fits.kept_made.fits.level
+    low = m.fits.pages.kept_made.fits.level
 
     low_now : level < t.meta.height
     low_now = subst (λ (meta : Meta). level < meta.height) (sym m.meta) low
@@ -97,7 +97,7 @@ module _ (trees : TreeLaws) (laws : MergeLaws) (s t : FileState) (parent keep go
     gone_on has = on_level s gone m.changes.going level p m.changes.gone_live same_level has
       where
         same_level : m.changes.going.level ≡ level
-        same_level = omega (arith, m.fits.kept_level, m.fits.gone_level)
+        same_level = omega (arith, m.fits.pages.kept_level, m.fits.pages.gone_level)
 
     pub joins_direct : AreJoinedAt s t keep gone p
     joins_direct = record {

@@ -71,6 +71,6 @@ pub merges_rename : TreeLaws → SpaceLaws → MergeLaws → MergesKeepSound →
 merges_rename trees space laws sound changes s parent keep gone above p may live held =
     let m = merged sound changes s parent keep gone may in
     let same : m.changes.above ≡ above = one_value (live_page s parent) m.changes.above above m.changes.above_live live in
-    let level : m.changes.kept.level + 1 ≡ above.level = m.fits.kept_level ∙ ap (λ (q : LivePage). q.level) same in
+    let level : m.changes.kept.level + 1 ≡ above.level = m.fits.pages.kept_level ∙ ap (λ (q : LivePage). q.level) same in
     renames_at trees laws s.meta keep gone above (may.sound.well_made parent above live) (omega (arith, level))
     (pages_have_boxes trees space s parent above may.sound may.some_attributes may.few_attributes live) p held

@@ -53,11 +53,11 @@ module _ (trees : TreeLaws) (space : SpaceLaws) (laws : MergeLaws) (s : FileStat
 
   all_made : All (λ (c : ℕ × Page). IsWellIn (released s.meta gone) c.1) changed
   all_made =
-      let level = may.fits.gone_level in
-      let light = may.fits.above_made.filled.light in
+      let level = may.fits.pages.gone_level in
+      let light = may.fits.pages.above_made.filled.light in
       let room = capacity_above may.above.level s.meta.dcap s.meta.icap (omega (arith, level)) in
       let some = some_weight may.above.frag in
-      let lower = may.fits.above_made.fits.level in
+      let lower = may.fits.pages.above_made.fits.level in
       laws.well (Merge parent keep gone) s.meta (Some may.above) (Some may.kept) (Some may.going) (omega (arith, light, room, some)) (omega (arith, lower)) tt may.fits
       (found trees laws s parent keep gone may sound)
 
@@ -111,7 +111,7 @@ module _ (trees : TreeLaws) (space : SpaceLaws) (laws : MergeLaws) (s : FileStat
       let leaf : Placed = placed (Sibling gone) may.going.area in
       let has = sibling_is_leaf (leaves_of may.kept.frag may.kept.area) gone may.going.area (named_gone trees laws s parent keep gone may sound) in
       let within : Within may.going.area may.kept.area = All-contains (λ (l : Placed). Within l.area may.kept.area) (leaves_of may.kept.frag may.kept.area) leaf
-      (trees.within may.kept.frag may.kept.area (box_of keep may.kept may.kept_live) may.fits.kept_made.well_cut) has in
+      (trees.within may.kept.frag may.kept.area (box_of keep may.kept may.kept_live) may.fits.pages.kept_made.well_cut) has in
       Holds-within may.going.area may.kept.area p (attributes_of gone may.going may.gone_live ∙ sym (attributes_of keep may.kept may.kept_live)) within held
 
   -- so the page to keep holds what the page that went did
@@ -125,13 +125,13 @@ module _ (trees : TreeLaws) (space : SpaceLaws) (laws : MergeLaws) (s : FileStat
       record {
         named = kept;
         there = ap if_live (is_joined s parent keep gone may).keep_now;
-        level = may.fits.kept_level;
+        level = may.fits.pages.kept_level;
         inside = inside_kept p (subst (λ (q : LivePage). Holds q.area p) same inside);
       }
 
   above_at : (name : ℕ) (a : Area) (p : List ℕ) → Contains (leaves_of above.frag above.area) (placed (Child name) a) → Holds a p → HoldsBelow may.above.level name p
   above_at name a p has held =
-      let w = parent_child_from trees laws keep gone may.above (box_of parent may.above may.above_live) may.fits.above_made.well_cut name a p has held in
+      let w = parent_child_from trees laws keep gone may.above (box_of parent may.above may.above_live) may.fits.pages.above_made.well_cut name a p has held in
       elim w.2 [
         | inl is ↦ subst (λ (n : ℕ). HoldsBelow may.above.level n p) (sym is.1) (below_kept p (subst (λ (n : ℕ). NamesChild may.above n p) is.0 w.1))
         | inr ne ↦ subst (λ (n : ℕ). HoldsBelow may.above.level n p) (sym ne.1) (below_at parent may.above w.0 p may.above_live ne.0 w.1)
@@ -151,7 +151,7 @@ module _ (trees : TreeLaws) (space : SpaceLaws) (laws : MergeLaws) (s : FileStat
       let same = same_level trees laws s parent keep gone may sound in
       let so = kept_so trees laws gone may.kept may.going (found trees laws s parent keep gone may sound) in
       let there = subst (λ (q : LivePage). Contains (leaves_of q.frag q.area) (placed (Child name) a)) so has in
-      elim (child_from trees laws gone may.kept may.going (found trees laws s parent keep gone may sound) (box_of keep may.kept may.kept_live) may.fits.kept_made.well_cut may.fits.gone_made.well_cut name a p there held) [
+      elim (child_from trees laws gone may.kept may.going (found trees laws s parent keep gone may sound) (box_of keep may.kept may.kept_live) may.fits.pages.kept_made.well_cut may.fits.pages.gone_made.well_cut name a p there held) [
         | inl w ↦ below_at keep may.kept name p may.kept_live (not_down keep may.kept name p may.kept_live (sym same) w) w
         | inr w ↦ subst (λ (level : ℕ). HoldsBelow level name p) same (below_at gone may.going name p may.gone_live (not_down gone may.going name p may.gone_live refl w) w)
       ]
@@ -178,7 +178,7 @@ module _ (trees : TreeLaws) (space : SpaceLaws) (laws : MergeLaws) (s : FileStat
   other_children id page name a w has =
       let m = sound.children id page name a w.live has in
       let ne : name ≢ gone = λ is. w.not_parent (no_other_parent trees space s gone parent id may.going may.above page a sound done.some_attributes done.few_attributes
-      may.gone_live may.above_live may.fits.gone_level may.fits.may.whole w.live (subst (λ (n : ℕ). HasChild page n a) is has)) in
+      may.gone_live may.above_live may.fits.pages.gone_level may.fits.may.whole w.live (subst (λ (n : ℕ). HasChild page n a) is has)) in
       let again = stays_live trees laws s parent keep gone may sound name m.0 m.1 ne in
       (again.new, again.live, ap (λ (k : ℕ). k + 1) again.level ∙ m.2, subst (λ (b : Area). Within a b) (sym again.area) m.3)
 

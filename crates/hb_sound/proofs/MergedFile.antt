@@ -40,7 +40,7 @@ module _ (trees : TreeLaws) (laws : MergeLaws) (s : FileState) (parent keep gone
   named_gone = (gone_box s parent keep gone may sound.siblings).1
 
   pub same_level : may.going.level ≡ may.kept.level
-  same_level = let one = may.fits.kept_level in let two = may.fits.gone_level in omega (arith, one, two)
+  same_level = let one = may.fits.pages.kept_level in let two = may.fits.pages.gone_level in omega (arith, one, two)
 
   -- ---- names
 

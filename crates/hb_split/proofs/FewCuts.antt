@@ -15,7 +15,7 @@ use Rattle.hb_space.specs.Boxes.{Area}
 use Rattle.hb_frag.specs.declared.pages.LivePage.{LivePage}
 use Rattle.hb_frag.specs.Paths.{part_at}
 use Rattle.hb_frag.specs.Rules.{AreInOrder, Precedes}
-use Rattle.hb_split.specs.Choosing.{AreChosen, way_down, Chooses, IsBest, NotBehind, count_on, heavier_count, heavier_side}
+use Rattle.hb_split.specs.Choosing.{AreChosen, way_down, Chooses, IsBest, NotBehind, count_on, heavier_count, fuller_side}
 use Rattle.hb_split.specs.Steps.{AreOf}
 use Rattle.hb_split.proofs.Centers.{LeavesFew, few_records, times}
 use Rattle.hb_split.proofs.Facts.Ends.{at_end, of_page, records_at}
@@ -26,8 +26,7 @@ at_least : (h axis value h' axis' value' : ℕ) → NotBehind h axis value h' ax
 at_least h axis value h' axis' value' n = elim n [ inl lt ↦ omega (arith, lt) | inr same ↦ let e = same.0 in omega (arith, e) ]
 
 -- the heavier side has as many as the heavier side
-heavier_is : (axis value : ℕ) (records : List Record) (side : Side) → side ≡ heavier_side (count_on Left axis value records) (count_on Right axis value records)
-    → count_on side axis value records ≡ heavier_count axis value records
+heavier_is : (axis value : ℕ) (records : List Record) (side : Side) → side ≡ fuller_side axis value records → count_on side axis value records ≡ heavier_count axis value records
 heavier_is axis value records side e =
     let left = count_on Left axis value records in
     let right = count_on Right axis value records in
@@ -43,8 +42,7 @@ at_most_four (suc (suc (suc (suc zero)))) m le = omega arith
 at_most_four (suc (suc (suc (suc (suc k))))) m le = absurd (omega (arith, le))
 
 -- of the best plane the lighter side has nearly an eighth
-drops : (k axis value : ℕ) (side : Side) (records : List Record) → k ≤ 4 → AreOf k records → IsBest k axis value records → side ≡ heavier_side (count_on Left axis value records) (count_on Right axis value records)
-    → 8 * count_on side axis value records ≤ 7 * length records + 1
+drops : (k axis value : ℕ) (side : Side) (records : List Record) → k ≤ 4 → AreOf k records → IsBest k axis value records → side ≡ fuller_side axis value records → 8 * count_on side axis value records ≤ 7 * length records + 1
 drops k axis value side records le of best e =
     let heavy = heavier_is axis value records side e in
     let all = both axis value records in
@@ -70,7 +68,7 @@ dropped : (n k : ℕ) (cut : LeafCut) (tree : Tree) → 6 ≤ n → k ≤ 4 → 
 dropped n k cut tree full le of c =
     let of_leaf : AreOf k c.records = subst (λ (t : Tree). AreOf k (records_in t)) c.leaf of in
     let some : 2 * n < 3 * weight_of (Tip (Records c.records)) = subst (λ (t : Tree). 2 * n < 3 * weight_of t) c.leaf c.heavy in
-    let d = drops k cut.axis cut.value cut.side c.records le of_leaf c.best c.side in
+    let d = drops k cut.axis cut.value cut.side c.records le of_leaf c.best.plane c.best.side in
     let on = is_on cut.side cut.axis cut.value in
     subst (Dropped k cut) (sym c.leaf) (record {
       less = omega (arith, d, some, full);

@@ -40,8 +40,7 @@ next_of k records c a b =
     let on = is_on c.cut.side c.cut.axis c.cut.value in
     let lt = b.0.may.attribute in
     record {
-      best = b.0;
-      side = b.1.side;
+      best = record { plane = b.0; side = b.1.side };
       inside = λ i d l. let e = a.attributes i d l in omega (arith, e, lt);
       fewer = fewer k c.cut.axis c.cut.value records b.0.may c.cut.side;
       kept = record {
@@ -94,5 +93,5 @@ pub adds_one : (n k : ℕ) (records : List Record) (cut : LeafCut) (old new : Li
 adds_one n k records cut old new full heavy next rest = (
   cut ∷ rest.0,
   rest.1 ∙ append_assoc old (cut ∷ []) rest.0,
-  (record { records = records; leaf = refl; heavy = omega (arith, heavy); best = next.best; side = next.side }, rest.2),
+  (record { records = records; leaf = refl; heavy = omega (arith, heavy); best = next.best }, rest.2),
 )

@@ -10,7 +10,7 @@ use Rattle.hb_frag.specs.Trees.{Tree, Tip}
 use Rattle.hb_frag.specs.Leaves.{weight_of}
 use Rattle.hb_ops.specs.declared.leaf_cuts.LeafCut.{LeafCut}
 use Rattle.hb_ops.specs.Cutting.{going, is_on, half_area, reached}
-use Rattle.hb_split.specs.Choosing.{heavier_side, count_on, AreChosen, Chooses}
+use Rattle.hb_split.specs.Choosing.{count_on, fuller_side, AreChosen, Chooses}
 use Rattle.hb_lemmas.proofs.Booleans.{if_below}
 
 -- both sides have all records
@@ -18,7 +18,7 @@ pub both : (axis value : ℕ) (records : List Record) → count_on Left axis val
 both axis value records = length-filter_both (is_on Left axis value) (is_on Right axis value) (λ r. refl) records
 
 -- the heavier side has at least half of them
-pub half : (axis value : ℕ) (side : Side) (records : List Record) → side ≡ heavier_side (count_on Left axis value records) (count_on Right axis value records)
+pub half : (axis value : ℕ) (side : Side) (records : List Record) → side ≡ fuller_side axis value records
     → length records ≤ 2 * count_on side axis value records
 half axis value side records e =
     let all = both axis value records in
@@ -32,7 +32,7 @@ pub goes_half : (n k : ℕ) (cut : LeafCut) (tree : Tree) → 6 ≤ n → Choose
 goes_half n k cut tree full c =
     subst (λ (t : Tree). weight_of t ≤ 2 * weight_of (going cut t)) (sym c.leaf)
     (let some : 2 * n < 3 * weight_of (Tip (Records c.records)) = subst (λ (t : Tree). 2 * n < 3 * weight_of t) c.leaf c.heavy in
-    let h = half cut.axis cut.value cut.side c.records c.side in
+    let h = half cut.axis cut.value cut.side c.records c.best.side in
     omega (arith, some, h, full))
 
 pub thirds : (n k : ℕ) (cuts : List LeafCut) (tree : Tree) (area : Area) → 6 ≤ n → n < 3 * weight_of tree → AreChosen n k cuts tree

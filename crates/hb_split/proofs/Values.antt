@@ -9,7 +9,7 @@ use Rattle.hb_space.specs.declared.records.Record.{Record}
 use Rattle.hb_frag.specs.declared.paths.Side.TheVariants.{Left, Right}
 use Rattle.hb_ops.specs.Cutting.{is_on}
 use Rattle.hb_split.specs.declared.planes.Candidate.{Candidate}
-use Rattle.hb_split.specs.Choosing.{MayCut, NotBehind, heavier_side, heavier_count, count_on}
+use Rattle.hb_split.specs.Choosing.{MayCut, NotBehind, heavier_side, heavier_count, count_on, fuller_side}
 use Rattle.hb_split.specs.Steps.{IsBestOn, AreValues, IsStep, heavier_at, BestStep}
 use Rattle.hb_split.proofs.Thirds.{both}
 
@@ -156,7 +156,7 @@ module _ (axis : ℕ) (records : List Record) (values : List ℕ) (a : AreValues
   best_plane at c b ea ev es ec =
       let step = b.1 in
       let own = counts at step in
-      let plane : ℕ → ℕ → Type 0 = λ x y. (c.count ≡ heavier_count x y records) × (c.cut.side ≡ heavier_side (count_on Left x y records) (count_on Right x y records)) in
+      let plane : ℕ → ℕ → Type 0 = λ x y. (c.count ≡ heavier_count x y records) × (c.cut.side ≡ fuller_side x y records) in
       let told : plane axis (get_or values at 0) = (ec ∙ sym (heavier at step), es ∙ ap (λ (x : ℕ). heavier_side x (length values - at)) (sym own.0) ∙ ap (λ (x : ℕ). heavier_side (count_on Left axis (get_or values at 0) records) x) (sym own.1)) in
       let told' : plane c.cut.axis c.cut.value = subst (λ (x : ℕ). plane x c.cut.value) (sym ea) (subst (λ (y : ℕ). plane axis y) (sym ev) told) in
       record {

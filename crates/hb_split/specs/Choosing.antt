@@ -9,9 +9,9 @@ use Rattle.hb_frag.specs.declared.paths.Side.TheVariants.{Left, Right}
 use Rattle.hb_frag.specs.Trees.{Tree, Tip, Cut}
 use Rattle.hb_frag.specs.Leaves.{weight_of}
 use Rattle.hb_frag.specs.Paths.{part_at, StaysInside}
-use Rattle.hb_ops.specs.Cutting.{is_on, going, reached, PartLeaves}
+use Rattle.hb_ops.specs.Cutting.{is_on, going, reached}
+use Rattle.hb_ops.specs.Extracting.{FitsPart}
 use Rattle.hb_ops.specs.declared.leaf_cuts.LeafCut.{LeafCut}
-use Rattle.hb_frag.specs.Rules.{IsSiblingTip}
 
 -- the heavier side of two, the left one where both weigh the same
 abbrev pub heavier_side : ℕ → ℕ → Side
@@ -35,6 +35,10 @@ count_on side axis value records = length (filter (is_on side axis value) record
 abbrev pub heavier_count : ℕ → ℕ → List Record → ℕ
 heavier_count axis value records = max (count_on Left axis value records) (count_on Right axis value records)
 
+-- the side of a plane on which more of the records lie
+abbrev pub fuller_side : ℕ → ℕ → List Record → Side
+fuller_side axis value records = heavier_side (count_on Left axis value records) (count_on Right axis value records)
+
 -- A plane may cut these records of k attributes: its value is that of a record, and exceeds that of another one.
 pub record MayCut (k axis value : ℕ) (records : List Record) : Type 0 where
   pub attribute : axis < k
@@ -51,13 +55,17 @@ pub record IsBest (k axis value : ℕ) (records : List Record) : Type 0 where
   pub first : (axis' value' : ℕ) → MayCut k axis' value' records
       → NotBehind (heavier_count axis value records) axis value (heavier_count axis' value' records) axis' value'
 
+-- a cut of the records at the best plane, to its fuller side
+pub record IsBestCut (k : ℕ) (records : List Record) (cut : LeafCut) : Type 0 where
+  pub plane : IsBest k cut.axis cut.value records
+  pub side : cut.side ≡ fuller_side cut.axis cut.value records
+
 -- a cut of a records leaf that has more than two thirds
 pub record Chooses (n k : ℕ) (cut : LeafCut) (tree : Tree) : Type 0 where
   pub records : List Record
   pub leaf : tree ≡ Tip (Records records)
   pub heavy : 2 * n < 3 * weight_of tree
-  pub best : IsBest k cut.axis cut.value records
-  pub side : cut.side ≡ heavier_side (count_on Left cut.axis cut.value records) (count_on Right cut.axis cut.value records)
+  pub best : IsBestCut k records cut
 
 -- Each cut is chosen of what the ones before it left, and at their end nothing is heavy.
 abbrev pub AreChosen : ℕ → ℕ → List LeafCut → Tree → Type 0
@@ -78,11 +86,8 @@ pub record IsThirds (page : LivePage) (path : List Side) (cuts : List LeafCut) :
   pub more : weight_of page.frag < 3 * weight_of (reached cuts part.0 part.1).0
   pub less : 3 * weight_of (reached cuts part.0 part.1).0 ≤ 2 * weight_of page.frag
 
--- The part may leave: the path stays in the tree, the cuts part a leaf there, and it's neither the page nor a lone sibling leaf.
+-- The part may leave: the path stays in the tree, and the part that it leads to is one that a split may take.
 pub record MayLeave (page : LivePage) (path : List Side) (cuts : List LeafCut) : Type 0 where
   pub inside : StaysInside path page.frag
   pub part : Tree × Area
-  pub found : part_at path page.frag page.area ≡ Some part
-  pub parts : PartLeaves cuts part.0 part.1
-  pub some : ¬ ((path ≡ []) × (cuts ≡ []))
-  pub own : ¬ (IsSiblingTip (reached cuts part.0 part.1).0)
+  pub fits : FitsPart path cuts page part

@@ -3,7 +3,6 @@ use Rattle.std.specs.Prelude.{◌≡◌, ℕ, ◌+◌, ◌<◌, ◌≤◌, ◌�
 use Rattle.hb_space.specs.declared.records.Record.{Record}
 use Rattle.hb_frag.specs.declared.leaves.Leaf.TheVariants.{Records}
 use Rattle.hb_frag.specs.declared.paths.Side.{Side}
-use Rattle.hb_frag.specs.declared.paths.Side.TheVariants.{Left, Right}
 use Rattle.hb_frag.specs.Trees.{Tip}
 use Rattle.hb_ops.specs.Cutting.{is_on}
 use Rattle.hb_ops.specs.declared.leaf_cuts.LeafCut.{LeafCut}
@@ -11,7 +10,7 @@ use Rattle.hb_frag.specs.Rules.{Precedes}
 use Rattle.std.specs.List.Sorted.{IsPermutation, IsSorted}
 use Rattle.std.specs.Ordering.{nat_cmp}
 use Rattle.hb_split.specs.declared.planes.Candidate.{Candidate}
-use Rattle.hb_split.specs.Choosing.{heavier_side, is_heavy, count_on, heavier_count, MayCut, NotBehind, IsBest, AreChosen}
+use Rattle.hb_split.specs.Choosing.{heavier_side, is_heavy, fuller_side, heavier_count, MayCut, NotBehind, IsBest, IsBestCut, AreChosen}
 
 -- the step at a cut, where its sides together have more than two thirds
 abbrev pub own_step : ℕ → ℕ → ℕ → List Side
@@ -29,7 +28,7 @@ AddsCuts n k records old new = (more : List LeafCut) × (new ≡ old ++ more) ×
 -- a candidate's count and side are those of its plane
 pub record IsOfPlane (records : List Record) (candidate : Candidate) : Type 0 where
   pub count : candidate.count ≡ heavier_count candidate.cut.axis candidate.cut.value records
-  pub side : candidate.cut.side ≡ heavier_side (count_on Left candidate.cut.axis candidate.cut.value records) (count_on Right candidate.cut.axis candidate.cut.value records)
+  pub side : candidate.cut.side ≡ fuller_side candidate.cut.axis candidate.cut.value records
 
 -- the best plane of the first k attributes, where there is one
 abbrev pub BestOf : ℕ → List Record → Option Candidate → Type 0
@@ -39,8 +38,7 @@ BestOf k records best = MatchOption best
 
 -- the cut that is made next of these records, and what it leaves
 pub record IsNextCut (k : ℕ) (records : List Record) (cut : LeafCut) : Type 0 where
-  pub best : IsBest k cut.axis cut.value records
-  pub side : cut.side ≡ heavier_side (count_on Left cut.axis cut.value records) (count_on Right cut.axis cut.value records)
+  pub best : IsBestCut k records cut
   pub inside : All (λ r. cut.axis < length r.key) records
   pub fewer : length (filter (is_on cut.side cut.axis cut.value) records) < length records
   pub kept : AreOf k (filter (is_on cut.side cut.axis cut.value) records)

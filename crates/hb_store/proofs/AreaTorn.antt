@@ -57,9 +57,7 @@ module _ (turn : ℕ) (said : Meta) (b c : List ℕ) (torn : Torn (log_start tur
     opens_same framed = record {
       newest = newest_same b c front_kept turn said opens.newest;
       fits = omega (arith, opens.fits, torn.as_long);
-      framed = framed;
-      spelled = opens.spelled;
-      replayed = opens.replayed;
+      log = record { framed = framed; spelled = opens.log.spelled; replayed = opens.log.replayed };
       shows = shows_kept (replay (untouched said) groups) s opens.shows;
     }
 
@@ -69,9 +67,11 @@ module _ (turn : ℕ) (said : Meta) (b c : List ℕ) (torn : Torn (log_start tur
     opens_more gs later framed fits leads = record {
       newest = newest_same b c front_kept turn said opens.newest;
       fits = omega (arith, opens.fits, torn.as_long);
-      framed = framed;
-      spelled = SpellAll-append said.k payloads (flat_map group_bytes gs ∷ []) groups gs opens.spelled (all_spelled said.k gs fits);
-      replayed = MayReplay-append (untouched said) groups gs opens.replayed (Leads-replayed (replay (untouched said) groups) s gs later leads);
+      log = record {
+        framed = framed;
+        spelled = SpellAll-append said.k payloads (flat_map group_bytes gs ∷ []) groups gs opens.log.spelled (all_spelled said.k gs fits);
+        replayed = MayReplay-append (untouched said) groups gs opens.log.replayed (Leads-replayed (replay (untouched said) groups) s gs later leads);
+      };
       shows =
           let Q : Replayed → Type 0 = λ t. Shows c said t (last_of s later) in
           subst Q (sym (replay-append (untouched said) groups gs))

@@ -31,7 +31,7 @@ use Rattle.hb_store.specs.Calls.{Commits, IsAllowedHere, NoneComes, change_here,
 use Rattle.hb_store.specs.Making.{MakesWell, group_here}
 use Rattle.hb_ops.proofs.Facts.SetPages.{set_not, all_set, set_both}
 use Rattle.hb_store.proofs.Facts.StayingLaws.{Commits-there}
-use Rattle.hb_store.proofs.Facts.Changed.{reads_numbered, same_size}
+use Rattle.hb_store.proofs.Facts.Changed.{reads_numbered, same_size, still_stands}
 use Rattle.hb_ops.proofs.Facts.ReachedPages.{Reaches, pages_set}
 use Rattle.hb_ops.proofs.Facts.AllowedOps.{reads_some, same_change, same_allowed, reads_alike}
 use Rattle.hb_store.proofs.Shown.{Shows-leads}
@@ -79,10 +79,10 @@ module _ (st new : StoreState) (op : Op) (mark : ℕ) (well : MakesWell op st) (
   change = change_here st op
 
   log_same : new.meta.log ≡ st.meta.log
-  log_same = ap (λ (m : Meta). m.log) commits.meta ∙ well.change.layout.log
+  log_same = ap (λ (m : Meta). m.log) commits.meta ∙ well.change.after.layout.log
 
   rises : st.meta.high ≤ new.meta.high
-  rises = subst (λ (m : Meta). st.meta.high ≤ m.high) (sym commits.meta) well.change.high
+  rises = subst (λ (m : Meta). st.meta.high ≤ m.high) (sym commits.meta) well.change.after.rises
 
   -- a page that is in the log then is one of the file
   in_file_after : (id : ℕ) → IsTrue (is_in_log new id) → (1 ≤ id) × (id ≤ new.meta.high)
@@ -108,7 +108,7 @@ module _ (st new : StoreState) (op : Op) (mark : ℕ) (well : MakesWell op st) (
 
   pub memory_after : IsMemory new
   memory_after = record {
-    stands = subst (λ (n : ℕ). IsStanding n new.meta) (sym commits.turn) (subst (λ (m : Meta). IsStanding st.turn m) (sym commits.meta) (well.change.stands well.memory.stands));
+    stands = subst (λ (n : ℕ). IsStanding n new.meta) (sym commits.turn) (subst (λ (m : Meta). IsStanding st.turn m) (sym commits.meta) (still_stands st.turn st.meta change.meta well.change.after well.memory.stands));
     area = commits.area ∙ well.memory.area ∙ (λ i. 8192 + (sym commits.turn i % 2) * sym log_same i);
     len = commits.len ∙ well.memory.len ∙ sym log_same;
     good = λ id page e.
@@ -116,7 +116,7 @@ module _ (st new : StoreState) (op : Op) (mark : ℕ) (well : MakesWell op st) (
         subst (λ (m : Meta). (1 ≤ id) × (id ≤ m.high) × IsGoodPage m page) (sym commits.meta)
         (all_set P change.pages (in_memory st)
         (λ k d lt. let c = well.change.pages k d lt in (c.0.0, c.0.1, c.1))
-        (λ n p is. let old = well.memory.good n p is in (old.0, omega (arith, old.1, well.change.high), well.change.others p old.2))
+        (λ n p is. let old = well.memory.good n p is in (old.0, omega (arith, old.1, well.change.after.rises), well.change.others p old.2))
         id page (Commits-there op mark st new commits id page e));
     in_file = in_file_after;
     logged = logged_after;
@@ -269,7 +269,7 @@ module _ (st new : StoreState) (op : Op) (mark : ℕ) (well : MakesWell op st) (
     in_memory_then = record {
       layout =
           let was = keeps.memory.layout in
-          let is = well.change.layout in
+          let is = well.change.after.layout in
           subst (λ (m : Meta). IsSameLayout p.said m) (sym commits.meta)
           (record { k = is.k ∙ was.k; pages = is.pages ∙ was.pages; log = is.log ∙ was.log; dcap = is.dcap ∙ was.dcap; icap = is.icap ∙ was.icap });
       meta_is = ap (λ (f : FileState). f.meta) last ∙ ap (λ (c : Change). c.meta) (sym change_file) ∙ sym commits.meta;
@@ -291,7 +291,7 @@ kept_state (Err e) old new kept = ap (λ (h : StoreHeld). h.state) kept
 pub room_made : {E : Type 0} (result : Result (Unit {0}) E) (size : ℕ) (st new : StoreState) (op : Op) (mark : ℕ) → file_size st.meta ≤ size
     → OnOk result (Commits op mark st new) → OnOk result (MakesWell op st) → OnErr result (new ≡ st) → file_size new.meta ≤ size
 room_made (Ok x) size st new op mark room commits well kept =
-    subst (λ (n : ℕ). n ≤ size) (sym (ap (λ (m : Meta). file_size m) commits.meta ∙ same_size st.meta (change_here st op).meta well.change.layout)) room
+    subst (λ (n : ℕ). n ≤ size) (sym (ap (λ (m : Meta). file_size m) commits.meta ∙ same_size st.meta (change_here st op).meta well.change.after.layout)) room
 room_made (Err e) size st new op mark room commits well kept = subst (λ (s : StoreState). file_size s.meta ≤ size) (sym kept) room
 
 pub keeps_made : {E : Type 0} (result : Result (Unit {0}) E) (d : DiskModel) → IsDisk d → (st new : StoreState) (durable : FileState) (later : List FileState) (op : Op) (mark : ℕ) → st.stopped ≡ false → StoreKeeps d st durable later

@@ -20,7 +20,7 @@ use Rattle.hb_store.specs.Replaying.{IsPageOf}
 use Rattle.hb_store.specs.States.{IsGoodPage, IsMemory, StoreState, in_memory, is_dirty, is_in_log}
 use Rattle.hb_store.specs.Making.{MakesGoodPages, MakesWell, group_here}
 use Rattle.hb_store.proofs.Committed.{commits_here}
-use Rattle.hb_store.proofs.Facts.Changed.{changes_well}
+use Rattle.hb_store.proofs.Facts.Changed.{good_change, limits_of}
 use Rattle.hb_store.proofs.Framed.{held_of, mark_seen, page_seen}
 use Rattle.hb_store.proofs.Facts.Grouped.{good_spelled}
 use Rattle.hb_store.proofs.Held.{set_seen}
@@ -54,4 +54,8 @@ spelled_pages meta pages good i d lt = good_spelled meta (get_or pages i d).1 (g
 
 -- what an operation makes is well made
 pub made_well : MakesGoodPages → (st : StoreState) → IsMemory st → (op : Op) → FitsGroup st.meta.k (group_here st op) → IsAllowedHere st op → BoxesMatch op (read_here st op 0) (read_here st op 1) (read_here st op 2) → MakesWell op st
-made_well makes st is op fits allowed boxes = record { memory = is; change = changes_well makes st is op fits.op allowed boxes; group = fits }
+made_well makes st is op fits allowed boxes = record {
+  memory = is;
+  change = good_change makes (record { meta = st.meta; page = in_memory st }) op (limits_of st.turn st.meta is.stands) is.good fits.op allowed boxes;
+  group = fits;
+}

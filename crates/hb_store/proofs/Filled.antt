@@ -11,7 +11,7 @@ use Rattle.hb_lemmas.proofs.Options.{some_value}
 use Rattle.hb_frag.specs.declared.pages.Page.{Page}
 use Rattle.hb_frag.specs.Grammar.{SpellsPage}
 use Rattle.hb_pool.specs.declared.pools.TheConstants.{FRAMES}
-use Rattle.hb_pool.specs.Frames.{Frame, Use, filled, fresh, may_go, must_stay, use_of}
+use Rattle.hb_pool.specs.Frames.{Frame, IsStaying, Use, filled, fresh, may_go, must_stay, use_of}
 use Rattle.hb_pool.specs.Pools.{IsPool, brought, frame_of, places, put_last, with_room}
 use Rattle.hb_pool.proofs.Facts.Others.{came_in, last_changed, last_no_other, marked_pages_stay, no_other_came}
 use Rattle.hb_pool.proofs.Facts.Pooled.{brought_pool, frame_pins, put_last_pool}
@@ -25,7 +25,7 @@ use Rattle.hb_store.proofs.Facts.Setting.{or_assoc}
 
 -- ---- a frame stays, or leaves
 
-pub staying : (old new : Option (Frame (List ℕ))) (f : Frame (List ℕ)) → MayGoOut old new → old ≡ Some f → IsTrue (must_stay f) → new ≡ Some f
+pub staying : (old new : Option (Frame (List ℕ))) (f : Frame (List ℕ)) → MayGoOut old new → old ≡ Some f → IsStaying f → new ≡ Some f
 staying old new f (inl same) is stays = same ∙ is
 staying old new f (inr left) is stays =
     let Q : Option (Frame (List ℕ)) → Type 0 = λ o. IsSomeAnd o (λ (g : Frame (List ℕ)). must_stay g ≡ false) in

@@ -6,11 +6,11 @@ use Rattle.hb_ops.specs.Files.{FileState, page_at}
 use Rattle.hb_super.specs.Superblocks.{IsNewest}
 use Rattle.hb_wal.specs.Frames.{ReadsOneWay}
 use Rattle.hb_page_codec.proofs.Facts.PageLaws.{SpelledOnce}
-use Rattle.hb_store.proofs.Facts.Spellings.{OneList, same_spelled}
+use Rattle.hb_store.proofs.Facts.Spellings.{OneList, one_log}
 use Rattle.hb_store.specs.Replay.{Replayed, replay, untouched}
-use Rattle.hb_store.specs.Opening.{IsPageIn, OpensBy, OpensTo, Shows, log_bytes, SpellAll, OpensToOne, OpensWhole}
+use Rattle.hb_store.specs.Opening.{IsPageIn, OpensBy, OpensTo, Shows, OpensToOne, OpensWhole}
 use Rattle.hb_ops.proofs.Facts.FilePages.{page_behind, page_in_range}
-use Rattle.hb_store.proofs.Facts.BadGroups.{not_both}
+use Rattle.hb_store.proofs.Facts.BadGroups.{no_bad_group}
 
 abbrev pub OneTurn : Type 0
 OneTurn = (bytes : List ℕ) (t s : ℕ) (m n : Meta) → IsNewest bytes t m → IsNewest bytes s n → t ≡ s
@@ -53,14 +53,11 @@ module _ (once : SpelledOnce) (one : OneList) where
   one_file turns metas way bytes s t here there =
       let a = here.by in
       let b = by_newest turns metas bytes here.turn here.said t there a.newest in
-      let payloads : here.payloads ≡ there.payloads = (way (log_bytes here.turn here.said bytes)).frames here.payloads there.payloads a.framed b.framed in
-      let groups : here.groups ≡ there.groups = same_spelled one here.said.k there.payloads here.groups there.groups (subst (λ p. SpellAll here.said.k p here.groups) payloads a.spelled) b.spelled in
+      let groups : here.groups ≡ there.groups = (one_log one way bytes here.turn here.said here.payloads there.payloads here.groups there.groups a.log b.log).1 in
       same_shown bytes here.said (replay (untouched here.said) there.groups) s t (subst (λ g. Shows bytes here.said (replay (untouched here.said) g) s) groups a.shows) b.shows
 
   -- ---- no bad frame
 
   pub no_bad_frame : OneTurn → OneMeta → OpensWhole
   no_bad_frame turns metas bytes s turn said frame opens newest bad =
-      let o = by_newest turns metas bytes turn said s opens newest in
-      not_both one said.k (untouched said) opens.payloads bad.before o.framed.rest bad.rest opens.groups bad.groups (sym o.framed.bytes ∙ bad.framed) o.framed.payloads_fit bad.payloads_fit o.framed.at_end
-      o.spelled bad.spelled o.replayed bad.bad
+      no_bad_group one bytes turn said opens.payloads opens.groups frame (by_newest turns metas bytes turn said s opens newest).log bad

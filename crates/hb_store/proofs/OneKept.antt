@@ -12,9 +12,9 @@ use Rattle.hb_layout.specs.declared.meta.Meta.{Meta}
 use Rattle.hb_ops.specs.Files.{FileState, last_of}
 use Rattle.hb_log_codec.specs.Groups.{Logged, FitsGroup, group_bytes}
 use Rattle.hb_page_codec.proofs.Facts.PageLaws.{SpelledOnce}
-use Rattle.hb_store.proofs.Facts.Spellings.{OneGroup, OneList, same_spelled}
+use Rattle.hb_store.proofs.Facts.Spellings.{OneGroup, OneList, one_log}
 use Rattle.hb_store.specs.Replay.{Replayed, untouched, replay, after_group}
-use Rattle.hb_store.specs.Opening.{OpensBy, OpensTo, Shows, log_bytes, SpellAll}
+use Rattle.hb_store.specs.Opening.{OpensBy, OpensTo, Shows}
 use Rattle.hb_store.specs.States.{StoreState}
 use Rattle.hb_store.specs.Keeps.{StoreKeeps}
 use Rattle.hb_store.specs.Parts.{Leads, OpensNext, Parts, written_pages}
@@ -71,23 +71,19 @@ module _ (once : SpelledOnce) (one : OneList) (group : OneGroup) (turns : OneTur
     newest said payloads written waiting s next (inr by) = by.newest
 
     module _ (said : Meta) where
-      payloads_same : (p q : List (List ℕ)) (xs ys : List Logged) (s u : FileState) → OpensBy b turn said p xs s → OpensBy b turn said q ys u → p ≡ q
-      payloads_same p q xs ys s u here there = (way (log_bytes turn said b)).frames p q here.framed there.framed
-
-      groups_same : (p q : List (List ℕ)) (xs ys : List Logged) (s u : FileState) → OpensBy b turn said p xs s → OpensBy b turn said q ys u → xs ≡ ys
-      groups_same p q xs ys s u here there =
-          same_spelled one said.k q xs ys (subst (λ l. SpellAll said.k l xs) (payloads_same p q xs ys s u here there) here.spelled) there.spelled
+      log_same : (p q : List (List ℕ)) (xs ys : List Logged) (s u : FileState) → OpensBy b turn said p xs s → OpensBy b turn said q ys u → (p ≡ q) × (xs ≡ ys)
+      log_same p q xs ys s u here there = one_log one way b turn said p q xs ys here.log there.log
 
       -- whether the frame of the groups that wait is there or not
       written_same : (p q : List (List ℕ)) (xs ys gs hs : List Logged) (s u m n : FileState) → length (frames p) ≡ length (frames q) → length gs ≡ length hs
           → OpensBy b turn said p xs s ⊎ OpensNext b turn said p xs gs m → OpensBy b turn said q ys u ⊎ OpensNext b turn said q ys hs n → xs ≡ ys
-      written_same p q xs ys gs hs s u m n long count (inl here) (inl there) = groups_same p q xs ys s u here there
+      written_same p q xs ys gs hs s u m n long count (inl here) (inl there) = (log_same p q xs ys s u here there).1
       written_same p q xs ys gs hs s u m n long count (inl here) (inr there) =
-          absurd (longer p q (flat_map group_bytes hs) long (payloads_same p (q ++ flat_map group_bytes hs ∷ []) xs (ys ++ hs) s n here there))
+          absurd (longer p q (flat_map group_bytes hs) long (log_same p (q ++ flat_map group_bytes hs ∷ []) xs (ys ++ hs) s n here there).0)
       written_same p q xs ys gs hs s u m n long count (inr here) (inl there) =
-          absurd (longer q p (flat_map group_bytes gs) (sym long) (sym (payloads_same (p ++ flat_map group_bytes gs ∷ []) q (xs ++ gs) ys m u here there)))
+          absurd (longer q p (flat_map group_bytes gs) (sym long) (sym (log_same (p ++ flat_map group_bytes gs ∷ []) q (xs ++ gs) ys m u here there).0))
       written_same p q xs ys gs hs s u m n long count (inr here) (inr there) =
-          same_before xs ys gs hs count (groups_same (p ++ flat_map group_bytes gs ∷ []) (q ++ flat_map group_bytes hs ∷ []) (xs ++ gs) (ys ++ hs) m n here there)
+          same_before xs ys gs hs count (log_same (p ++ flat_map group_bytes gs ∷ []) (q ++ flat_map group_bytes hs ∷ []) (xs ++ gs) (ys ++ hs) m n here there).1
 
     module _ (n : ℕ) (said : Meta) (p q : List (List ℕ)) (xs ys gs hs : List Logged) (s u next other : FileState) (waiting_is : gs ≡ hs)
         (here : Tells b turn n said p xs gs s next) (there : Tells b turn n said q ys hs u other) where

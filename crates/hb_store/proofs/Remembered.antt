@@ -12,7 +12,7 @@ use Rattle.hb_frag.specs.Grammar.{SpellsPage}
 use Rattle.hb_layout.specs.declared.meta.Meta.{Meta}
 use Rattle.hb_wal.specs.Log.{LogState}
 use Rattle.hb_page_codec.specs.ReadingPages.{page_of_bytes}
-use Rattle.hb_pool.specs.Frames.{Frame, Use, must_stay, use_of}
+use Rattle.hb_pool.specs.Frames.{Frame, IsStaying, must_stay, use_of}
 use Rattle.hb_pool.specs.Pools.{IsPool, brought, frame_of, places}
 use Rattle.hb_view.specs.Spelled.{page_or, page_spelled}
 use Rattle.hb_store.specs.Calls.{Fetched, NoneComes, StaysHere}
@@ -162,7 +162,7 @@ none_comes turn meta other_meta log other_log s t stopped old new q was leave = 
 -- and a page that stays is there as it was
 pub stays_same : (old new : List (Frame (List ℕ))) (q : ℕ) → MayGoOut (frame_of old q) (frame_of new q) → StaysHere (map use_of old) q → in_frame new q ≡ in_frame old q
 stays_same old new q leave stays =
-    let f = frame_and old q (λ (u : Use). IsTrue (must_stay u)) stays in
+    let f = frame_and old q IsStaying stays in
     ap page_had (staying (frame_of old q) (frame_of new q) f.0 leave f.1 f.2) ∙ ap page_had (sym f.1)
 
 module _ {T : Type 0} (turn : ℕ) (meta : Meta) (log : LogState) (s : bag.HashSet ℕ T) (stopped : Bool) (pool : List (Frame (List ℕ))) (id : ℕ) (bytes : List ℕ)
@@ -192,7 +192,7 @@ module _ {T : Type 0} (turn : ℕ) (meta : Meta) (log : LogState) (s : bag.HashS
 
   pub stays_then : (q : ℕ) → StaysHere (map use_of pool) q → in_memory after q ≡ in_memory st q
   stays_then q stays =
-      let f = frame_and pool q (λ (u : Use). IsTrue (must_stay u)) stays in
+      let f = frame_and pool q IsStaying stays in
       let other : q ≢ id = λ same. not_none (frame_of pool q) f.0 f.1 (ap (frame_of pool) same ∙ absent) in
       page_seen now q ∙ stays_same pool now q (others pool id bytes false is absent place q other) stays ∙ sym (page_seen pool q)
 

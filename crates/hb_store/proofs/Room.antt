@@ -23,7 +23,7 @@ use Rattle.hb_ops.specs.Merging.{kept_page, parent_page}
 use Rattle.hb_ops.specs.Posting.{post_page}
 use Rattle.hb_ops.specs.Recording.{del_page, put_page}
 use Rattle.hb_ops.specs.Operations.{change_of, reads_of}
-use Rattle.hb_pool.specs.Frames.{Frame, Use, filled, fresh, must_stay, use_of}
+use Rattle.hb_pool.specs.Frames.{Frame, IsStaying, Use, filled, fresh, must_stay, use_of}
 use Rattle.hb_pool.specs.Pools.{IsPool, brought, frame_of, places, put_last}
 use Rattle.hb_pool.proofs.Facts.Others.{came_in, last_changed, last_no_other, marked_pages_stay}
 use Rattle.hb_pool.proofs.Facts.Pooled.{last_counts}
@@ -42,19 +42,16 @@ step id uses = use_changed (id ∷ []) uses
 abbrev stepped : ℕ → List Use → Bool → List Use
 stepped id uses b = cond b (put_last id (filled (tt {0})) uses) (brought id (tt {0}) true uses)
 
-abbrev Stays : Use → Type 0
-Stays u = IsTrue (must_stay u)
-
-frame_staying : (uses : List Use) (id : ℕ) → StaysHere uses id → (f : Use) × (frame_of uses id ≡ Some f) × (must_stay f ≡ true)
-frame_staying uses id stays = value_and (frame_of uses id) Stays stays
+frame_staying : (uses : List Use) (id : ℕ) → StaysHere uses id → (f : Use) × (frame_of uses id ≡ Some f) × IsStaying f
+frame_staying uses id stays = value_and (frame_of uses id) IsStaying stays
 
 -- a page that was put stays
 put_stays : (uses : List Use) (id : ℕ) → IsPool uses → StaysHere (step id uses) id
 put_stays uses id is = elim (is_some (frame_of uses id)) as (λ b. is_some (frame_of uses id) ≡ b → StaysHere (stepped id uses b) id) [
   | true ↦ λ some.
       let f = some_value (frame_of uses id) some in
-      some_and_at (frame_of (put_last id (filled (tt {0})) uses) id) Stays (filled (tt {0}) f.0) (last_changed uses id (filled (tt {0})) is (λ g. refl) ∙ ap (option_map (filled (tt {0}))) f.1) refl
-  | false ↦ λ none. some_and_at (frame_of (brought id (tt {0}) true uses) id) Stays (fresh id (tt {0}) true) (came_in uses id (tt {0}) true (none_so (frame_of uses id) none)) refl
+      some_and_at (frame_of (put_last id (filled (tt {0})) uses) id) IsStaying (filled (tt {0}) f.0) (last_changed uses id (filled (tt {0})) is (λ g. refl) ∙ ap (option_map (filled (tt {0}))) f.1) refl
+  | false ↦ λ none. some_and_at (frame_of (brought id (tt {0}) true uses) id) IsStaying (fresh id (tt {0}) true) (came_in uses id (tt {0}) true (none_so (frame_of uses id) none)) refl
 ] refl
 
 -- and each that stays does so still
@@ -64,8 +61,8 @@ still_stays uses id other is stays = elim (cases_eq other id) [
   | inr apart ↦
       let f = frame_staying uses other stays in
       elim (is_some (frame_of uses id)) as (λ b. StaysHere (stepped id uses b) other) [
-        | true ↦ some_and_at (frame_of (put_last id (filled (tt {0})) uses) other) Stays f.0 (last_no_other uses id other (filled (tt {0})) apart (λ g. refl) ∙ f.1) f.2
-        | false ↦ some_and_at (frame_of (brought id (tt {0}) true uses) other) Stays f.0 (marked_pages_stay uses id other (tt {0}) true f.0 f.1 f.2) f.2
+        | true ↦ some_and_at (frame_of (put_last id (filled (tt {0})) uses) other) IsStaying f.0 (last_no_other uses id other (filled (tt {0})) apart (λ g. refl) ∙ f.1) f.2
+        | false ↦ some_and_at (frame_of (brought id (tt {0}) true uses) other) IsStaying f.0 (marked_pages_stay uses id other (tt {0}) true f.0 f.1 f.2) f.2
       ]
 ]
 

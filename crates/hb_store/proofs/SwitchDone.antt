@@ -70,7 +70,7 @@ module _ (d e : DiskModel) (is_e : IsDisk e) (old : StoreHeld) (to_turn : IsToTu
       let same : e.size ≡ d.size = run.became.size in
       let room = to_turn.room in
       record {
-        switched = refl;
+        done = refl;
         stopped = tt;
         keeps = StoreKeeps-idle d old.state (StoreKeeps e (switched_state old.state)) to_turn.idle (λ durable keeps.
             keeps_switched d old.state to_turn.memory to_turn.may.running clean durable keeps e is_e (omega (arith, same, room))
@@ -87,7 +87,7 @@ module _ (d e : DiskModel) (is_e : IsDisk e) (old : StoreHeld) (to_turn : IsToTu
       let result : Result T DiskFault = Err fault in
       let run = wrote result turns in
       record {
-        switched = tt;
+        done = tt;
         stopped = (refl, refl);
         keeps = StoreKeeps-idle d old.state (StoreKeeps e (stopped_state old.state)) to_turn.idle (λ durable keeps.
             let told = some_value d.told keeps.disk.told in

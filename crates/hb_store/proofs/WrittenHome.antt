@@ -100,7 +100,7 @@ module _ (d e : DiskModel) (is_disk : IsDisk d) (is_new : IsDisk e) (old : Store
       let done : Result (Unit {0}) WriteFault = Ok tt in
       let run = wrote_place r writes in
       record {
-        cleaned = refl;
+        done = refl;
         stopped = tt;
         keeps = StoreKeeps-idle d old.state (StoreKeeps e (cleaned_held id old).state) to_write.idle (λ durable keeps.
             let layout = keeps.memory.layout in
@@ -121,7 +121,7 @@ module _ (d e : DiskModel) (is_disk : IsDisk d) (is_new : IsDisk e) (old : Store
       let failed : Result (Unit {0}) WriteFault = Err fault in
       let run = wrote_place r writes in
       record {
-        cleaned = tt;
+        done = tt;
         stopped = (refl, refl);
         keeps = StoreKeeps-idle d old.state (StoreKeeps e (stopped_state old.state)) to_write.idle (λ durable keeps. keeps_not_home d e old.state to_write.memory to_write.going to_write.idle id to_write.dirty durable keeps run.became);
         moments = moments_home r writes;

@@ -6,7 +6,7 @@ use Rattle.hb_frag.specs.declared.pages.Page.{Page}
 use Rattle.hb_ops.specs.declared.operations.Op.{Op}
 use Rattle.hb_ops.specs.Files.{FileState, if_live, last_of}
 use Rattle.hb_ops.specs.Operations.{Change, IsAllowedOn, change_of, effect_of, reads_of}
-use Rattle.hb_pool.specs.Frames.{Use, filled, must_stay}
+use Rattle.hb_pool.specs.Frames.{IsStaying, Use, filled}
 use Rattle.hb_pool.specs.Pools.{brought, frame_of, places, put_last}
 use Rattle.hb_wal.specs.Log.{pending_bytes, room_of}
 use Rattle.hb_store.specs.Replay.{is_among}
@@ -26,7 +26,7 @@ change_here st op = change_of op st.meta (read_here st op 0) (read_here st op 1)
 
 -- The page of this number is in memory and stays there, whatever comes: it is dirty or pinned.
 abbrev pub StaysHere : List Use → ℕ → Type 0
-StaysHere uses id = IsSomeAnd (frame_of uses id) (λ (u : Use). IsTrue (must_stay u))
+StaysHere uses id = IsSomeAnd (frame_of uses id) IsStaying
 
 -- No page comes under this number: what was there is there as it was, or it left, and reads in its place as the file has it.
 abbrev pub NoneComes : StoreState → StoreState → ℕ → Type 0

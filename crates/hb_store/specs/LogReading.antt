@@ -6,14 +6,13 @@ use Rattle.hb_frag.specs.declared.pages.Page.{Page}
 use Rattle.hb_frag.specs.Grammar.{HasSpelling}
 use Rattle.hb_layout.specs.declared.meta.Meta.{Meta}
 use Rattle.hb_log_codec.specs.Groups.{Logged}
-use Rattle.hb_store.specs.Replay.{Replayed, replay, MayReplay, untouched}
+use Rattle.hb_store.specs.Replay.{Replayed, replay, untouched}
 use Rattle.hb_store.specs.declared.touched.Touched.{Touched}
 use Rattle.hb_store.specs.declared.touched.ReplayStop.{ReplayStop}
 use Rattle.hb_store.specs.declared.touched.ReplayStop.TheVariants as replays
-use Rattle.hb_store.specs.Opening.{log_bytes, HasBadGroup, SpellAll}
+use Rattle.hb_store.specs.Opening.{HasBadGroup, HasGroups}
 use Rattle.hb_store.specs.declared.touched.LogStop.{LogStop}
 use Rattle.hb_store.specs.declared.touched.LogStop.TheVariants as logs
-use Rattle.hb_wal.specs.Frames.{HasFrames}
 use Rattle.hb_store.specs.Replaying.{ComesAfter, HasReplayed, IsFirstBad}
 
 -- the stop of reading a log, where a replay stops at the frame of this number
@@ -37,9 +36,7 @@ NamesBadOr said payloads logs.DiskFault = ⊥
 pub record ReadsLog (bytes : List ℕ) (turn : ℕ) (said : Meta) (t : Touched) : Type 0 where
   pub payloads : List (List ℕ)
   pub groups : List Logged
-  pub framed : HasFrames (log_bytes turn said bytes) payloads
-  pub spelled : SpellAll said.k payloads groups
-  pub replayed : MayReplay (untouched said) groups
+  pub log : HasGroups bytes turn said payloads groups
   pub meta_is : t.meta ≡ (replay (untouched said) groups).meta
   pub pages_are : (id : ℕ) → get nat_cmp t.pages id ≡ (replay (untouched said) groups).page id
 

@@ -9,7 +9,7 @@ use Rattle.hb_ops.specs.declared.operations.Op.{Op}
 use Rattle.hb_ops.specs.declared.operations.Op.TheVariants.{Extract, Post}
 use Rattle.hb_ops.specs.Operations.{BoxesMatch, Change, IsAllowedOn, OpHas, change_of, reads_of}
 use Rattle.hb_log_codec.specs.Groups.{FitsGroup, FitsLeafCut, FitsOp, Logged}
-use Rattle.hb_store.specs.States.{AreGood, IsGoodPage, IsMemory, IsSameLayout, IsStanding, StoreState, in_memory, is_in_log}
+use Rattle.hb_store.specs.States.{AreGood, IsGoodPage, IsMemory, StoreState, in_memory, is_in_log}
 use Rattle.hb_store.specs.Calls.{CommitsBringNone, IsAllowedHere, change_here, read_here}
 use Rattle.hb_store.specs.Replay.{IsAllowedIn, Replayed, change_in, touched_read}
 use Rattle.hb_store.specs.Replaying.{ComesAfter, HasLimits, IsPageOf}
@@ -56,9 +56,13 @@ HaveFittingParts = (op : Op) (meta : Meta) (first second third : Option LivePage
 -- What a change makes: what the file says of itself comes after what it said, good pages stay good, and each changed page
 -- is one of the file then, and is good.
 pub record IsGoodChange (meta : Meta) (change : Change) : Type 0 where
+  -- the layout stays, what the file says of itself is within its limits, and the highest page does not fall
   pub after : ComesAfter meta change.meta
+  -- it rises by one at most
   pub next : change.meta.high ≤ meta.high + 1
+  -- a page that was good is good
   pub others : (page : Page) → IsGoodPage meta page → IsGoodPage change.meta page
+  -- each changed page is of the file, and good
   pub pages : All (λ c. IsPageOf change.meta c.0 × IsGoodPage change.meta c.1) change.pages
 
 -- On good pages of a file within its limits an allowed operation makes a good change, where the boxes match; and its paths and cuts
@@ -76,22 +80,6 @@ pub record OperationLaws : Type 0 where
   pub fits : PartsFitOnGoodPages
   pub commits : CommitsBringNone
 
--- What an operation changes: the layout stays, what the file says of itself still stands, good pages are good, and each
--- changed page is one of the file then, and is good.
-pub record ChangesWell (turn : ℕ) (meta : Meta) (change : Change) : Type 0 where
-  -- the file is laid down as before
-  pub layout : IsSameLayout meta change.meta
-  -- what it says of itself is within its limits
-  pub stands : IsStanding turn meta → IsStanding turn change.meta
-  -- the highest page does not fall
-  pub high : meta.high ≤ change.meta.high
-  -- it rises by one at most
-  pub next : change.meta.high ≤ meta.high + 1
-  -- a page that was good is good
-  pub others : (page : Page) → IsGoodPage meta page → IsGoodPage change.meta page
-  -- each changed page is of the file, and good
-  pub pages : All (λ c. IsPageOf change.meta c.0 × IsGoodPage change.meta c.1) change.pages
-
 -- an operation that a store can do: its points have as many attributes as the file says, it is allowed on the pages in memory, and
 -- their boxes match
 pub record IsDoableHere (op : Op) (st : StoreState) : Type 0 where
@@ -99,11 +87,11 @@ pub record IsDoableHere (op : Op) (st : StoreState) : Type 0 where
   pub allowed : IsAllowedHere st op
   pub boxes : BoxesMatch op (read_here st op 0) (read_here st op 1) (read_here st op 2)
 
--- What an operation makes of a store is well made, and its group fits the log.
+-- What an operation makes of a store is a good change, and its group fits the log.
 pub record MakesWell (op : Op) (st : StoreState) : Type 0 where
   -- the store was one
   pub memory : IsMemory st
-  -- what the operation makes is well made
-  pub change : ChangesWell st.turn st.meta (change_here st op)
+  -- what the operation makes is a good change
+  pub change : IsGoodChange st.meta (change_here st op)
   -- its group has its place in a frame
   pub group : FitsGroup st.meta.k (group_here st op)

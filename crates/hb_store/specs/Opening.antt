@@ -25,6 +25,12 @@ abbrev pub SpellAll : ℕ → List (List ℕ) → List Logged → Type 0
 SpellAll k [] groups = groups ≡ []
 SpellAll k (payload ∷ rest) groups = (front : List Logged) × (behind : List Logged) × (groups ≡ front ++ behind) × SpellsGroups k payload front × SpellAll k rest behind
 
+-- The frames of the log of a turn have these payloads, which spell these groups, and they may be replayed.
+pub record HasGroups (bytes : List ℕ) (turn : ℕ) (said : Meta) (payloads : List (List ℕ)) (groups : List Logged) : Type 0 where
+  pub framed : HasFrames (log_bytes turn said bytes) payloads
+  pub spelled : SpellAll said.k payloads groups
+  pub replayed : MayReplay (untouched said) groups
+
 -- A page of the file is the touched one, or where it wasn't touched the one that its place spells.
 abbrev pub IsPageIn : List ℕ → Meta → ℕ → Option Page → Page → Type 0
 IsPageIn bytes meta id None page = SpellsPage (place_bytes meta id bytes) page
@@ -40,9 +46,7 @@ pub record Shows (bytes : List ℕ) (said : Meta) (t : Replayed) (s : FileState)
 pub record OpensBy (bytes : List ℕ) (turn : ℕ) (said : Meta) (payloads : List (List ℕ)) (groups : List Logged) (s : FileState) : Type 0 where
   pub newest : IsNewest bytes turn said
   pub fits : file_size said ≤ length bytes
-  pub framed : HasFrames (log_bytes turn said bytes) payloads
-  pub spelled : SpellAll said.k payloads groups
-  pub replayed : MayReplay (untouched said) groups
+  pub log : HasGroups bytes turn said payloads groups
   pub shows : Shows bytes said (replay (untouched said) groups) s
 
 pub record OpensTo (bytes : List ℕ) (s : FileState) : Type 0 where

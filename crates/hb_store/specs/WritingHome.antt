@@ -1,35 +1,18 @@
 -- What it is to write the least recently used dirty page to its place, where no group waits.
-use Rattle.std.specs.Prelude.{◌≡◌, ◌≢◌, ◌⊎◌, ◌+◌, ◌<◌, ℕ, [], Some, None, IsOk, IsSome, MatchOption, OnErr, OnOk, Result, List}
+use Rattle.std.specs.Prelude.{◌≡◌, ◌≢◌, ◌⊎◌, ◌<◌, ℕ, [], Some, None, IsOk, MatchOption, Result}
 use Rattle.hb_disk.specs.Model.{DiskModel, Torn}
-use Rattle.hb_disk.specs.Calls.{Leaves}
-use Rattle.hb_disk.specs.Runs.{Rewrites}
 use Rattle.hb_layout.specs.Offsets.{page_offset}
-use Rattle.hb_ops.specs.Files.{FileState}
 use Rattle.hb_space.specs.declared.form.TheConstants.{PAGE}
 use Rattle.hb_store.specs.Fetching.{LooksUp}
-use Rattle.hb_store.specs.Forced.{stopped_state}
 use Rattle.hb_store.specs.Held.{StoreHeld, cleaned_held, oldest_dirty}
-use Rattle.hb_store.specs.Keeps.{StoreKeeps}
-use Rattle.hb_store.specs.Opening.{OpensTo}
-use Rattle.hb_store.specs.Switching.{SwitchesTurn}
+use Rattle.hb_store.specs.Switching.{KeepsFile, SwitchesTurn}
 use Rattle.hb_store.specs.declared.stops.Flushed.{Flushed}
 use Rattle.hb_store.specs.declared.stops.Flushed.TheVariants.{Forced, Written, Switched, Nothing}
 use Rattle.hb_store.specs.declared.stops.WriteFault.{WriteFault}
 
--- The page of this number is written to its place, by its result.
-pub record WritesHome (result : Result (Unit {0}) WriteFault) (id : ℕ) (d e : DiskModel) (old new : StoreHeld) : Type 0 where
-  -- once it is written it is clean
-  pub cleaned : OnOk result (new ≡ cleaned_held id old)
-  -- a fault stops the store
-  pub stopped : OnErr result ((new.state ≡ stopped_state old.state) × (new.uses ≡ old.uses))
-  -- the file stays, also after a fault
-  pub keeps : (durable : FileState) (later : List FileState) → StoreKeeps d old.state durable later → StoreKeeps e new.state durable later
-  -- whatever a crash inside leaves opens to it
-  pub moments : (durable : FileState) (later : List FileState) → StoreKeeps d old.state durable later → Leaves d e (λ c. OpensTo c durable)
-  -- only that page's place changes, in one call, and a fault is the disk's
-  pub wrote : Rewrites (Torn (page_offset old.state.meta id) PAGE) 1 result d e
-  -- one call, where it is done
-  pub clock : IsSome d.told → OnOk result (e.clock ≡ d.clock + 1)
+-- The page of this number is written to its place, by its result: once it is written it is clean. Only that place changes, in one call.
+abbrev pub WritesHome : Result (Unit {0}) WriteFault → ℕ → DiskModel → DiskModel → StoreHeld → StoreHeld → Type 0
+WritesHome result id d e old new = KeepsFile result (cleaned_held id old) (Torn (page_offset old.state.meta id) PAGE) 1 d e old new
 
 -- What a flush is to do where no group waits, by its result: the least recently used dirty page; where none is dirty the next turn
 -- begins if the log has a frame, and else nothing is to be done.

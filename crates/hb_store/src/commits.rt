@@ -11,6 +11,7 @@ ghost use Rattle.hb_store.specs.Seen.{seen_as, uses_of};
 ghost use Rattle.hb_store.specs.Calls.{Commits, HasFrameFor, IsAllowedHere, IsReady, StaysHere, change_here, numbers_changed, read_here, use_changed, with_op};
 ghost use Rattle.hb_ops.specs.SetPages.{has_page};
 ghost use Rattle.hb_store.specs.States.{in_memory};
+ghost use Rattle.hb_wal.specs.Log.{IsMarkedTo};
 
 use crate::group_writing::group_for;
 use crate::making::what_is_made_can_be_written;
@@ -36,7 +37,7 @@ impl<D: Device> Store<D> {
         requires place { HasFrameFor op (seen_as self.old) (uses_of self.old) }
         requires licensed { (durable : FileState) (later : List FileState) → StoreKeeps (D.model self.old.disk) (seen_as self.old) durable later →
             IsLicensed (last_of durable later) op }
-        requires marks { All (λ g. g.mark ≤ mark) (seen_as self.old).log.groups }
+        requires marks { All (IsMarkedTo mark) (seen_as self.old).log.groups }
         ensures commits { OnOk result (Commits op mark (seen_as self.old) (seen_as self.new)) }
         ensures group { OnOk result ((seen_as self.new).log.groups ≡ (seen_as self.old).log.groups ++ record { bytes = group_bytes (group_here (seen_as self.old) op); mark = mark } ∷ []) }
         ensures uses { OnOk result (uses_of self.new ≡ use_changed (numbers_changed (seen_as self.old) op) (uses_of self.old)) }
@@ -59,7 +60,7 @@ impl Memory {
         requires allowed { IsAllowedHere self.old.state op.now }
         requires boxes { BoxesMatch op.now (read_here self.old.state op.now 0) (read_here self.old.state op.now 1) (read_here self.old.state op.now 2) }
         requires place { HasFrameFor op.now self.old.state self.old.uses }
-        requires marks { All (λ g. g.mark ≤ mark) self.old.state.log.groups }
+        requires marks { All (IsMarkedTo mark) self.old.state.log.groups }
         ensures commits { OnOk result (Commits op.now mark self.old.state self.new.state) }
         ensures group { OnOk result (self.new.state.log.groups ≡ self.old.state.log.groups ++ record { bytes = group_bytes (group_here self.old.state op.now); mark = mark } ∷ []) }
         ensures uses { OnOk result (self.new.uses ≡ use_changed (numbers_changed self.old.state op.now) self.old.uses) }

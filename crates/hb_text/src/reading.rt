@@ -1,5 +1,6 @@
 ghost use Rattle.std.specs.Prelude.{◌≡◌, ℕ, ◌+◌, ◌≤◌, false, List, [], ◌∷◌, ◌++◌, length, drop, Some, All, OnOk, IfOk};
 ghost use Rattle.hb_set.specs.Scripts.{IsScriptFor};
+ghost use Rattle.hb_space.specs.Actors.{IsActor};
 ghost use Rattle.hb_text.specs.Grammar.{line_read, text_read};
 ghost use Rattle.hb_text.specs.StepWords.{steps_of};
 ghost use Rattle.hb_text.specs.Words.{words_of};
@@ -66,7 +67,7 @@ pub fn read_commands(
     ensures exact { ReadsScript result (text_read step_lines attributes.number text.now) }
     ensures memory { WantsMemory step_lines attributes.number text.now result }
     ensures no_steps { IfOk result (λ script. step_lines ≡ false → script.steps ≡ []) }
-    ensures actors { IfOk result (λ script. All (λ a. (1 ≤ a) × (a ≤ 19)) script.steps) }
+    ensures actors { IfOk result (λ script. All IsActor script.steps) }
     ensures few_steps { IfOk result (λ script. length script.steps ≤ 10000000) }
     ensures short { OnOk result (length text.now ≤ 257000000) }
     ensures script { IfOk result (λ script. IsScriptFor attributes.number script.lines) }

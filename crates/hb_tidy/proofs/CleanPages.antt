@@ -69,7 +69,7 @@ below_is_tidy s id page live all = record {
   none = λ keep gone may.
       let are = joins s id keep gone may in
       let same = one_value (live_page s id) are.above page are.above_live live in
-      let over = named_over page keep (subst (λ (p : LivePage). Contains (leaves p.frag) (Child keep)) same are.fits.names_kept) in
+      let over = named_over page keep (subst (λ (p : LivePage). Contains (leaves p.frag) (Child keep)) same are.fits.pages.names_kept) in
       (All-contains (IsTidyBelow s id) (placed_children page) (keep, over.0) all over.1).none gone may;
 }
 

@@ -16,9 +16,9 @@ use Rattle.hb_core.specs.KeptFits.{HaveClasses}
 use Rattle.hb_core.specs.Machines.{Machine, sight, with_disk}
 use Rattle.hb_core.specs.Performing.{DoesOp, MayDo, Performs}
 use Rattle.hb_core.specs.Rows.{Row}
-use Rattle.hb_core.specs.Relied.{MayFlush}
 use Rattle.hb_core.specs.Showing.{RunningCore, ShowsMachine}
 use Rattle.hb_core.specs.Steps.{StepsTo, Works}
+use Rattle.hb_core.specs.Relied.{MayRun}
 use Rattle.hb_core.specs.Working.{MayStep}
 use Rattle.hb_core.specs.declared.counts.TidyCounts.{TidyCounts}
 use Rattle.hb_core.specs.declared.outcomes.Outcome.{Outcome}
@@ -237,7 +237,7 @@ live_by_merger m next outcome old new classes shown then step within few counts 
     by_step 18 old new within few counts (inr (subst (λ (st : StoreState). st.meta.live ≤ old.store.meta.live) then (subst (λ (st : StoreState). next.store.meta.live ≤ st.meta.live) shown (merger_makes_none m 18 outcome next (classes 18) step))))
 
 -- and of both, as a core tells of a step of theirs
-pub live_by_worker : (d : DiskModel) (old : RunningCore) (worker : ℕ) (outcome : Outcome) (e : DiskModel) (new : RunningCore) → (worker ≡ 17) ⊎ (worker ≡ 18) → MayFlush d old → CountsWithin old → old.taken < 2 ^ 64 - 1
+pub live_by_worker : (d : DiskModel) (old : RunningCore) (worker : ℕ) (outcome : Outcome) (e : DiskModel) (new : RunningCore) → (worker ≡ 17) ⊎ (worker ≡ 18) → MayRun d old → CountsWithin old → old.taken < 2 ^ 64 - 1
     → ((m : Machine) → MayStep d old m → (next : Machine) × StepsTo m worker outcome next × ShowsMachine e new next) → CountsStep worker old new → LiveIsCounted old new
 live_by_worker d old worker outcome e new (inl is) runs within few steps counts = live_by_poster old new within few (subst (λ (n : ℕ). CountsStep n old new) is counts)
 live_by_worker d old worker outcome e new (inr is) runs within few steps counts =

@@ -27,7 +27,8 @@ use Rattle.hb_core.specs.KeptFits.{JobFits}
 use Rattle.hb_core.specs.KeptMachine.{CoreKeeps, MachineKeeps}
 use Rattle.hb_core.specs.Machines.{Files, Machine, stopped_for}
 use Rattle.hb_core.specs.Performing.{given_by}
-use Rattle.hb_core.specs.Runs.{ChangesFile, HasRun, HoldsSince, IsPrefixImage, RunningLaws}
+use Rattle.hb_core.specs.MomentLaws.{IsPrefixImage}
+use Rattle.hb_core.specs.Runs.{ChangesFile, HasRun, HoldsSince, RunningLaws}
 use Rattle.hb_core.specs.Showing.{RunningCore, ShowsMachine}
 use Rattle.hb_core.specs.Steps.{StepsInSequence, StepsTo}
 use Rattle.hb_core.specs.Touching.{Touches}
@@ -58,7 +59,7 @@ module _ (laws : RunningLaws) (d e : DiskModel) (m : Machine) (actor : ℕ) (ans
         after = after.0;
         keeps = after.1.keeps;
         contents = sym after.1.keeps.order_legal.result ∙ ap (result_of n) stand.order ∙ keeps.order_legal.result;
-        crashes = record { each = (run.crashes n files keeps).each; since = All-nil (HoldsSince e n run.new) };
+        crashes = record { each = (run.crashes n files keeps).each; since = All-nil (HoldsSince e n run.new.order) };
       }
 
   pub run_tidied : HasTidied d m e c
@@ -127,7 +128,7 @@ module _ (laws : RunningLaws) (d e : DiskModel) (m new : Machine) (old c : Runni
       after = files;
       keeps = still.keeps n files keeps;
       contents = refl;
-      crashes = record { each = same_crashes n files keeps; since = All-nil (HoldsSince e n new) };
+      crashes = record { each = same_crashes n files keeps; since = All-nil (HoldsSince e n new.order) };
     };
   }
 

@@ -51,22 +51,24 @@ module _ (meta : Meta) (parent keep gone : ℕ) (above kept going : LivePage) wh
       → (0 < meta.live) × ((parent ≡ keep) → ⊥) × ((parent ≡ gone) → ⊥) × ((keep ≡ gone) → ⊥) × (going.level ≡ kept.level)
       → MayMerge above kept gone going (capacity_of kept.level meta.dcap meta.icap) → FitsMerge meta parent keep gone above kept going
   three_fit area stands made named (live, not_keep, not_gone, two, level) may = record {
-    others = (not_keep, not_gone);
-    two = two;
+    pages = record {
+      others = (not_keep, not_gone);
+      two = two;
+      above_made = stands.above.made;
+      kept_made = stands.below_made;
+      gone_made = made;
+      kept_level = stands.level;
+      gone_level = ap (λ (n : ℕ). n + 1) level ∙ stands.level;
+      names_kept = names_child above keep area stands.above.leaf;
+      names_gone = named;
+    };
     some_live = omega (arith, live);
-    above_made = stands.above_made;
-    kept_made = stands.below_made;
-    gone_made = made;
-    kept_level = stands.level;
-    gone_level = ap (λ (n : ℕ). n + 1) level ∙ stands.level;
-    names_kept = names_child above keep area stands.leaf;
-    names_gone = named;
     may = may;
   }
 
   pub fit_three : FitsMerge meta parent keep gone above kept going → (0 < meta.live) × ((parent ≡ keep) → ⊥) × ((parent ≡ gone) → ⊥) × ((keep ≡ gone) → ⊥) × (going.level ≡ kept.level)
   fit_three fits =
       let live = fits.some_live in
-      let low = fits.kept_level in
-      let last = fits.gone_level in
-      (omega (arith, live), fits.others.0, fits.others.1, fits.two, omega (arith, low, last))
+      let low = fits.pages.kept_level in
+      let last = fits.pages.gone_level in
+      (omega (arith, live), fits.pages.others.0, fits.pages.others.1, fits.pages.two, omega (arith, low, last))

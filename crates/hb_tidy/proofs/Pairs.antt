@@ -40,7 +40,7 @@ module _ (parent keep : ℕ) (above kept : LivePage) where
 
   pub pair_unnamed : (gone : ℕ) (jobs : List Job) (d : DiskModel) (c : RunningCore) → IsDisk d → MayTidy d c → ¬ (Contains (leaves above.frag) (Child gone)) → LooksOver (BothLive parent above keep kept) (Ok (tt {0})) (NotGoing gone jobs jobs) d c d c
   pair_unnamed gone jobs d c disk may unnamed =
-      nothing_looked d c disk may (tt {0}) Both (NotGoing gone jobs jobs) (λ s both. finds_nothing s (¬ (IsMergeable s parent keep gone)) jobs (λ merge. let fits = fits_known s parent keep gone above kept both.0 both.1 merge in unnamed fits.2.names_gone))
+      nothing_looked d c disk may (tt {0}) Both (NotGoing gone jobs jobs) (λ s both. finds_nothing s (¬ (IsMergeable s parent keep gone)) jobs (λ merge. let fits = fits_known s parent keep gone above kept both.0 both.1 merge in unnamed fits.2.pages.names_gone))
 
   pub pair_tried : (gone : ℕ) (area : Area) (before after : List Job) (going : LivePage) (d e : DiskModel) (old new : RunningCore) → HasChild above keep area → LooksOver NothingOf (Ok (Some going)) (λ page s. live_page s gone ≡ page) d old e new
       → (after ≡ [] → (before ≡ []) × (¬ (FitsMerge old.store.meta parent keep gone above kept going)))

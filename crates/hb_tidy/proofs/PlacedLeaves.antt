@@ -53,7 +53,7 @@ module _ (meta : Meta) (parent : LivePage) (name : ℕ) (area : Area) (made : Fi
       omega (arith, some)
 
   pub stands_there : (page : LivePage) → IsArea parent.area → FitsFile meta page → (page.level + 1 ≡ parent.level) × Within area page.area → IsArea page.area → StandsBelow meta parent name area page
-  stands_there page whole good (level, within) below = record { above_made = made; below_made = good; above_area = whole; below_area = below; leaf = leaf; level = level; within = within }
+  stands_there page whole good (level, within) below = record { above = record { made = made; whole = whole; leaf = leaf }; below_made = good; below_area = below; level = level; within = within }
 
 pub leaves_are_placed : (meta : Meta) (parent : LivePage) → FitsFile meta parent → IsArea parent.area → All (λ (leaf : ℕ × Area). HasPlacedChild meta parent leaf.0 leaf.1) (placed_children parent)
 leaves_are_placed meta parent made whole =
@@ -64,17 +64,17 @@ leaves_are_placed meta parent made whole =
 module _ (meta : Meta) (parent : LivePage) (name : ℕ) (area : Area) (child : LivePage) (p : List ℕ) (stands : StandsBelow meta parent name area child) (held : Holds area p) where
   pub parent_holds : Holds parent.area p
   parent_holds =
-      let inside = All-contains (λ (l : Placed). Within l.area parent.area) (leaves_of parent.frag parent.area) (placed (Child name) area) (tiles_within parent.frag parent.area stands.above_area stands.above_made.well_cut) stands.leaf in
-      Holds-within area parent.area p (leaf_attributes meta parent name area stands.above_made stands.leaf ∙ sym stands.above_made.fits.attributes) inside held
+      let inside = All-contains (λ (l : Placed). Within l.area parent.area) (leaves_of parent.frag parent.area) (placed (Child name) area) (tiles_within parent.frag parent.area stands.above.whole stands.above.made.well_cut) stands.above.leaf in
+      Holds-within area parent.area p (leaf_attributes meta parent name area stands.above.made stands.above.leaf ∙ sym stands.above.made.fits.attributes) inside held
 
   pub child_holds : Holds child.area p
-  child_holds = Holds-within area child.area p (leaf_attributes meta parent name area stands.above_made stands.leaf ∙ sym stands.below_made.fits.attributes) stands.within held
+  child_holds = Holds-within area child.area p (leaf_attributes meta parent name area stands.above.made stands.above.leaf ∙ sym stands.below_made.fits.attributes) stands.within held
 
   pub child_there : NamesChildAt parent p
   child_there = record {
     outer = name;
     leaf = area;
-    at_point = (first_tells parent.frag parent.area p (placed (Child name) area) stands.above_area stands.above_made.well_cut).1 (stands.leaf, held);
+    at_point = (first_tells parent.frag parent.area p (placed (Child name) area) stands.above.whole stands.above.made.well_cut).1 (stands.above.leaf, held);
   }
 
 -- ---- sibling leaves
@@ -91,5 +91,5 @@ given_attributes meta page made =
 -- as many as the leaf that it stands below
 pub common_attributes : (meta : Meta) (parent : LivePage) (area : Area) (child : LivePage) (given : Area) → HasGiven meta parent area child given → length area.lo ≡ length given.lo
 common_attributes meta parent area child given has =
-    leaf_attributes meta parent has.name area has.stands.above_made has.stands.leaf
+    leaf_attributes meta parent has.name area has.stands.above.made has.stands.above.leaf
     ∙ sym (All-contains (λ (s : ℕ × Area). length s.1.lo ≡ meta.k) (siblings_of child) (has.inner, given) (given_attributes meta child has.stands.below_made) has.listed)

@@ -8,10 +8,10 @@ use Rattle.hb_layout.specs.declared.meta.Meta.{Meta}
 use Rattle.hb_core.specs.BetweenLaws.{CountsStayWithin, HeightIsCounted, LookingKeepsAll, WaitingKeepsAll}
 use Rattle.hb_core.specs.Counting.{CountsWithin}
 use Rattle.hb_core.specs.Machines.{Machine}
-use Rattle.hb_core.specs.Relied.{MayFlush}
 use Rattle.hb_core.specs.Runs.{RunningLaws}
 use Rattle.hb_core.specs.Showing.{RunningCore}
 use Rattle.hb_core.specs.SteppingLaws.{IsAtRest}
+use Rattle.hb_core.specs.Relied.{MayRun}
 use Rattle.hb_core.specs.Working.{MayStep}
 use Rattle.hb_tidy.specs.declared.stops.TidyStop.{TidyStop}
 use Rattle.hb_tidy.specs.Counted.{CountsRise, EndsSpent}
@@ -29,7 +29,7 @@ pub record TidyLaws : Type 0 where
 -- A core may go on: it isn't stopped, no more operations of a kind were counted than steps, and the count of steps has some left.
 pub record MayTidy (d : DiskModel) (c : RunningCore) : Type 0 where
   pub laws : TidyLaws
-  pub runs : MayFlush d c
+  pub runs : MayRun d c
   pub counts : CountsWithin c
   pub left : c.taken < 2 ^ 64 - 1
 

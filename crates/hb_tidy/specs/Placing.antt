@@ -32,11 +32,9 @@ pub record HasPlacedChild (meta : Meta) (parent : LivePage) (name : ℕ) (area :
 -- A page stands below a child leaf of a parent that has this box: it is one level down, and has the box within its own. Both pages
 -- are well made.
 pub record StandsBelow (meta : Meta) (parent : LivePage) (name : ℕ) (area : Area) (child : LivePage) : Type 0 where
-  pub above_made : FitsFile meta parent
+  pub above : HasPlacedChild meta parent name area
   pub below_made : FitsFile meta child
-  pub above_area : IsArea parent.area
   pub below_area : IsArea child.area
-  pub leaf : HasChild parent name area
   pub level : child.level + 1 ≡ parent.level
   pub within : Within area child.area
 

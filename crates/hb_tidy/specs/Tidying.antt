@@ -14,7 +14,8 @@ use Rattle.hb_core.specs.Machines.{Files, Machine, current_file}
 use Rattle.hb_core.specs.Runs.{ChangesFile, CountsFaults, CrashesTo}
 use Rattle.hb_core.specs.Showing.{RunningCore, ShowsMachine}
 use Rattle.hb_core.specs.Taking.{all_idle}
-use Rattle.hb_core.specs.Working.{MayGoOn, MayStep}
+use Rattle.hb_core.specs.Relied.{MayRun}
+use Rattle.hb_core.specs.Working.{MayGoOn}
 use Rattle.hb_tidy.specs.declared.stops.TidyStop.{TidyStop}
 use Rattle.hb_tidy.specs.declared.stops.TidyStop.TheVariants as stops
 use Rattle.hb_tidy.specs.Finding.{IsTidy, WantsPage}
@@ -26,7 +27,7 @@ AllAtRest c = c.activities ≡ all_idle
 -- A core may be tidied: it isn't stopped, its actors are between commands and jobs, and it has counted no more operations of a kind
 -- than steps.
 pub record MayBeTidied (d : DiskModel) (c : RunningCore) : Type 0 where
-  pub may : (m : Machine) × MayStep d c m × (m.stop ≡ None)
+  pub may : MayRun d c
   pub idle : AllAtRest c
   pub counts : CountsWithin c
 

@@ -12,7 +12,7 @@ use Rattle.hb_space.specs.declared.form.TheConstants.{PENDING}
 use Rattle.hb_wal.specs.Frames.{frames, frame_bytes, frame_body}
 use Rattle.hb_wal.specs.declared.groups.Group.{Group}
 use Rattle.hb_wal.specs.declared.log.Wal.TheInside.{Inside}
-use Rattle.hb_wal.specs.Log.{Waiting, LogState, IsLog, waiting_bytes, forced, after_force, pending_bytes, framed_bytes, room_of}
+use Rattle.hb_wal.specs.Log.{Waiting, LogState, IsLog, IsMarkedTo, IsNoLater, waiting_bytes, forced, after_force, pending_bytes, framed_bytes, room_of}
 use Rattle.hb_wal.specs.Kept.{waiting_of, total_of, log_seen, Keeps}
 use Rattle.hb_wal.proofs.Waiting.{length-waiting_of, pending-waiting_of, framed-pending, count-pending, total-push, pending-push, framed-push, waiting-push, length-waiting_bytes, waiting_bytes-waiting_of, count-some, forced-some}
 
@@ -95,11 +95,11 @@ log-forced log waits is = record {
 
 -- a log with one group more is one
 pub log-push : (log : LogState) (group : List ℕ) (mark : ℕ) → IsLog log → 0 < length group → length group ≤ room_of log → pending_bytes log.groups + length group ≤ PENDING
-    → All (λ g. g.mark ≤ mark) log.groups
+    → All (IsMarkedTo mark) log.groups
     → IsLog (record { area = log.area; len = log.len; written = log.written; groups = log.groups ++ record { bytes = group; mark = mark } ∷ [] })
 log-push log group mark is some room reserved marks = record {
   fits = omega (arith, is.fits, room, some, framed-push log.groups (record { bytes = group; mark = mark }));
   groups = All-push (λ g. 0 < length g.bytes) log.groups (record { bytes = group; mark = mark }) is.groups some;
   reserved = omega (arith, reserved, pending-push log.groups (record { bytes = group; mark = mark }));
-  marks = all_pairs_push (λ g h. g.mark ≤ h.mark) log.groups (record { bytes = group; mark = mark }) is.marks (λ k d h. marks k d h);
+  marks = all_pairs_push IsNoLater log.groups (record { bytes = group; mark = mark }) is.marks (λ k d h. marks k d h);
 }

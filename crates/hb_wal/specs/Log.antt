@@ -8,6 +8,13 @@ pub record Waiting : Type 0 where
   pub bytes : List ℕ
   pub mark : ℕ
 
+-- a group's mark is at most so much; and the one group's mark isn't behind the other's
+abbrev pub IsMarkedTo : ℕ → Waiting → Type 0
+IsMarkedTo most g = g.mark ≤ most
+
+abbrev pub IsNoLater : Waiting → Waiting → Type 0
+IsNoLater g h = g.mark ≤ h.mark
+
 -- what contracts see of a log; the groups wait in this order
 pub record LogState : Type 0 where
   pub area : ℕ
@@ -36,7 +43,7 @@ pub record IsLog (log : LogState) : Type 0 where
   pub fits : log.written + framed_bytes log.groups ≤ log.len
   pub groups : All (λ g. 0 < length g.bytes) log.groups
   pub reserved : pending_bytes log.groups ≤ PENDING
-  pub marks : AllPairs (λ g h. g.mark ≤ h.mark) log.groups
+  pub marks : AllPairs IsNoLater log.groups
 
 -- the mark of the first group that waits, or another number where none does
 abbrev pub mark_of : List Waiting → ℕ → ℕ

@@ -1,7 +1,7 @@
 ghost use Rattle.std.specs.Prelude.{◌≡◌, ◌≢◌, ◌↔◌, ◌<◌, ◌≤◌, ◌+◌, ◌^◌, [], ◌∷◌, ◌++◌, length, All, IfOk, IsNone, IfSome};
 ghost use Rattle.hb_wal.specs.Frames.{frame_body};
 ghost use Rattle.hb_space.specs.declared.form.TheConstants.{PENDING};
-ghost use Rattle.hb_wal.specs.Log.{LogState, IsLog, waiting_bytes, after_force, room_of, pending_bytes, mark_of};
+ghost use Rattle.hb_wal.specs.Log.{LogState, IsLog, IsMarkedTo, waiting_bytes, after_force, room_of, pending_bytes, mark_of};
 
 use crate::groups::Group;
 use hb_outside::give_u32;
@@ -96,7 +96,7 @@ impl Wal {
         requires some { 0 < length group.now }
         requires room { length group.now ≤ room_of self.old }
         requires reserved { pending_bytes self.old.groups + length group.now ≤ PENDING }
-        requires marks { All (λ g. g.mark ≤ mark) self.old.groups }
+        requires marks { All (IsMarkedTo mark) self.old.groups }
         ensures { self.new ≡ record {
           area = self.old.area;
           len = self.old.len;

@@ -1,8 +1,9 @@
 -- How a run ends that has made its core.
-use Rattle.std.proofs.Common.{◌≡◌, ◌≢◌, inl, inr, ℕ, List, [], None, refl, sym, ap, subst, ◌∙◌}
+use Rattle.std.proofs.Common.{◌≡◌, ◌≢◌, inl, inr, ℕ, List, [], refl, sym, ap, subst, ◌∙◌}
 use Rattle.hb_core.specs.Machines.{Machine}
 use Rattle.hb_core.specs.Runs.{HasRun}
 use Rattle.hb_core.specs.Showing.{RunningCore}
+use Rattle.hb_core.specs.Relied.{MayTakeSteps}
 use Rattle.hb_core.specs.Working.{MayStep}
 use Rattle.hb_core.specs.declared.endings.End.TheVariants as ends
 use Rattle.hb_disk.specs.Model.{DiskModel}
@@ -48,13 +49,13 @@ begins_here origin before after d e core started =
 pub may_core : (origin : Origin) (before after : SourceModel) (d e : DiskModel) (core : RunningCore) (m : Machine) → (started : IsStarted origin before after d e core) → IsBegunHere e started.made.lines started.made.steps started.store m → MayStep e core m
 may_core origin before after d e core m started here = subst (λ (c : RunningCore). MayStep e c m) (sym started.made.core_is) here.may
 
-pub may_begin : (origin : Origin) (before after : SourceModel) (d e : DiskModel) (core : RunningCore) → IsStarted origin before after d e core → (m : Machine) × MayStep e core m
+pub may_begin : (origin : Origin) (before after : SourceModel) (d e : DiskModel) (core : RunningCore) → IsStarted origin before after d e core → MayTakeSteps e core
 may_begin origin before after d e core started =
     let here = begins_here origin before after d e core started in
     (here.0, may_core origin before after d e core here.0 started here.1)
 
 -- it isn't stopped
-pub may_begin_running : (origin : Origin) (before after : SourceModel) (d e : DiskModel) (core : RunningCore) → IsStarted origin before after d e core → (m : Machine) × MayStep e core m × (m.stop ≡ None)
+pub may_begin_running : (origin : Origin) (before after : SourceModel) (d e : DiskModel) (core : RunningCore) → IsStarted origin before after d e core → MayRun e core
 may_begin_running origin before after d e core started =
     let here = begins_here origin before after d e core started in
     (here.0, may_core origin before after d e core here.0 started here.1, here.1.begun.runs)

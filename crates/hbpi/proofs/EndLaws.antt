@@ -257,7 +257,7 @@ tidy_source run status ends = elim ends [
 ]
 
 pub map_source : (run : Run) (status : Status) → MapEnds run status → run.seen.source_after.faults ≡ run.seen.source_before.faults
-map_source run status ends = elim ends [ inl shut ↦ shut.2.unread.faults | inr mapped ↦ mapped.2.unread.faults ]
+map_source run status ends = elim ends [ inl shut ↦ shut.2.unread.faults | inr mapped ↦ mapped.2.1.unread.faults ]
 
 pub gen_source : (text : List ℕ) (seen : Seen) (status : Status) → GenEnds text seen status → seen.source_after.faults ≡ seen.source_before.faults
 gen_source text seen status ends = elim ends [ inl refused ↦ refused.2.faults | inr said ↦ said.0.unread.faults ]

@@ -208,7 +208,7 @@ check_disk run status ends = elim ends [
 map_disk : (run : Run) (status : Status) → MapEnds run status → DiskLater run.before run.after
 map_disk run status ends = elim ends [
   | inl shut ↦ (shut.2.leaves.faults.reads, shut.2.leaves.faults.writes)
-  | inr mapped ↦ (mapped.2.leaves.faults.reads, mapped.2.leaves.faults.writes)
+  | inr mapped ↦ (mapped.2.1.leaves.faults.reads, mapped.2.1.leaves.faults.writes)
 ]
 
 tidy_disk : (run : Run) (status : Status) → TidyEnds run status → DiskLater run.before run.after

@@ -22,13 +22,13 @@ map_keeps one s run b told opens ends = elim ends [
   | inl shut ↦ absurd (not_done shut.0 (sym shut.1))
   | inr done ↦
       let store = done.0 in
-      let found = at_value run.before.told _ b told done.2.opens.file in
+      let found = at_value run.before.told _ b told done.2.1.opens.file in
       let same : found.0 ≡ s = one b found.0 s found.1 opens in
       let mapped = at_value run.before.told _ b told done.3.whole in
       let here : mapped.0 ≡ s = one b mapped.0 s mapped.1 opens in
       record {
         text = subst (Appends run.seen.sink_before.written run.seen.sink_after.written) (mapped.2 ∙ ap map_text here) done.4.0;
-        even = subst (λ (t : FileState). IsEven run.after t) same (even_store run.after store found.0 [] found.4 done.2.opens.is_new.running);
+        even = subst (λ (t : FileState). IsEven run.after t) same (even_store run.after store found.0 [] found.4 done.2.1.opens.is_new.running);
       }
 ]
 

@@ -109,8 +109,7 @@ module _ (d m e : DiskModel) (old new : StoreHeld) (count : ℕ) (seen : Seen) (
       subst (λ (s : Status). MapEnds (run_of seen d e) s) (sym is) (inr (
         old.state,
         text.0,
-        record {
-          records = count;
+        (count, record {
           opens = opens_further d m e old.state count only facts.opens;
           through = runs_further old.state.meta.high d m e only.stays facts.through;
           leaves = record {
@@ -123,7 +122,7 @@ module _ (d m e : DiskModel) (old new : StoreHeld) (count : ℕ) (seen : Seen) (
           unread = facts.unread;
           none_answered = facts.none_answered;
           none_ordered = facts.none_ordered;
-        },
+        }),
         text.1,
         maps_with result text.0 facts text.2,
       ))

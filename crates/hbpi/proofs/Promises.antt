@@ -1,13 +1,14 @@
 -- The promise of `drive`, `run` and `work`, from how a run ends.
-use Rattle.std.proofs.Common.{◌≡◌, ◌⊎◌, inl, inr, ℕ, ◌+◌, ◌≤◌, List, [], ◌∷◌, All, Some, None, refl, sym, ap, subst, ◌∙◌, arith}
+use Rattle.std.proofs.Common.{◌≡◌, inl, inr, ℕ, ◌+◌, ◌≤◌, List, [], ◌∷◌, All, Some, None, refl, sym, ap, subst, ◌∙◌, arith}
 use Rattle.std.proofs.lemmas.List.Elements.{All-nil, All-weaker}
 use Rattle.std.specs.List.{Contains}
 use Rattle.hb_core.specs.KeepingLaws.{BegunKeepsAll}
-use Rattle.hb_core.specs.KeptOrder.{StandsInOrder, StandsOutside}
+use Rattle.hb_core.specs.KeptOrder.{StandsSomewhere}
 use Rattle.hb_core.specs.KeptSequence.{IsInSequence}
 use Rattle.hb_core.specs.Laws.{HasOnePage, PointsHaveOnePage}
 use Rattle.hb_core.specs.Machines.{Files, Machine, settled_count}
-use Rattle.hb_core.specs.Runs.{HoldsSince, IsPrefixImage}
+use Rattle.hb_core.specs.MomentLaws.{IsPrefixImage}
+use Rattle.hb_core.specs.Runs.{HoldsSince}
 use Rattle.hb_core.specs.Steps.{StepsInSequence}
 use Rattle.hb_core.specs.SteppingLaws.{IsBegunOver, StepsGoOn}
 use Rattle.hb_disk.proofs.Facts.RunLaws.{Leaves-weaker}
@@ -30,7 +31,7 @@ use Rattle.hbpi.specs.Codes.{status_of}
 use Rattle.hbpi.specs.Driven.{IsOpened, Manner}
 use Rattle.hbpi.specs.StepEnds.{Drove, RanEnds, StepsEnd}
 use Rattle.hbpi.specs.Drives.{LeavesLate, LeavesPrefixes}
-use Rattle.hbpi.specs.Promises.{AreOfScript, IsHeld, KeepsPromise, StandsAt}
+use Rattle.hbpi.specs.Promises.{AreOfScript, KeepsPromise}
 use Rattle.hbpi.specs.Schedules.{CameFrom, CameNot}
 use Rattle.hbpi.specs.SeenRuns.{Run}
 use Rattle.hbpi.specs.declared.origins.Origin.{Origin}
@@ -59,19 +60,12 @@ nothing_done origin s run status sound pages none_answered none_ordered leaves l
       numbers = none_ordered;
       said = inl refl;
       legal = record { replies = tt; sessions = tt };
-      replied = let Q : List Answered → Type 0 = λ a. All (λ x. StandsOutside x.reply ⊎ ((place : ℕ) × StandsAt [] x place)) a in subst Q (sym none_answered) (All-nil _);
-      held = let Q : List Answered → Type 0 = λ a. All (IsHeld run.after (contents_of s) []) a in subst Q (sym none_answered) (All-nil _);
+      replied = let Q : List Answered → Type 0 = λ a. All (StandsSomewhere []) a in subst Q (sym none_answered) (All-nil _);
+      held = let Q : List Answered → Type 0 = λ a. All (HoldsSince run.after (contents_of s) []) a in subst Q (sym none_answered) (All-nil _);
       crashes = λ even. Leaves-weaker run.before run.after (λ c. OpensTo c s) P weaker (leaves even);
       late = λ later. let here = late later in record { since = here.since; soon = here.soon; each = λ c left. weaker c (here.each c left) };
       even = λ is. absurd (undone is);
     }
-
--- what stands in the order of a machine stands in the order
-stands_there : (m : Machine) (a : Answered) (place : ℕ) → StandsInOrder m a.line a.reply place → StandsAt m.order a place
-stands_there m a place stands = record { entry = stands.entry; there = stands.there; number = stands.number_is; reply = stands.reply_is }
-
-stands_here : (m : Machine) (a : Answered) (place : ℕ) → StandsAt m.order a place → StandsInOrder m a.line a.reply place
-stands_here m a place stands = record { entry = stands.entry; there = stands.there; number_is = stands.number; reply_is = stands.reply }
 
 -- where the steps were taken, from this file on
 module _ (laws : PromiseLaws) (b : List ℕ) (by : Manner) (run : Run) (status : Status) (after : Machine) (told : run.before.told ≡ Some b) (drove : Drove by run after) (going : status ≡ Done → after.stop ≡ None) where
@@ -93,16 +87,13 @@ module _ (laws : PromiseLaws) (b : List ℕ) (by : Manner) (run : Run) (status :
       let n = contents_of s in
       let keeps = (laws.begun s drove.actors takes.before after over takes.actors takes.reached).1.keeps in
       let came : run.seen.answered ≡ after.answered = takes.came.same (has_value run.before.told b told) in
-      let R : Answered → Type 0 = λ a. StandsOutside a.reply ⊎ ((place : ℕ) × StandsAt after.order a place) in
       record {
         order = after.order;
         numbers = takes.order_is;
         said = inr (of_script s over keeps.kept.lines_in_sequence.placed);
         legal = keeps.order_legal.legal;
-        replied = subst (λ (given : List Answered). All R given) (sym came)
-            (All-weaker (λ a. StandsOutside a.reply ⊎ ((place : ℕ) × StandsInOrder after a.line a.reply place)) R
-            (λ a stands. elim stands [ inl outside ↦ inl outside | inr inside ↦ inr (inside.0, stands_there after a inside.0 inside.1) ]) after.answered keeps.order_legal.answers);
-        held = All-weaker (HoldsSince run.after n after) (IsHeld run.after n after.order) (λ a holds place stands. holds place (stands_here after a place stands)) run.seen.answered prefixes.since;
+        replied = subst (λ (given : List Answered). All (StandsSomewhere after.order) given) (sym came) keeps.kept.replies_stand.answers;
+        held = prefixes.since;
         crashes = prefixes.even;
         late = λ later. prefixes.late;
         even = λ is. let even = prefixes.settled (going is) in (even.0, settled_count after, even.1, even.2, even.3);

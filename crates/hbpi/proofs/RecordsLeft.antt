@@ -5,7 +5,7 @@ use Rattle.std.specs.List.{AllByRecursion, slice_get}
 use Rattle.std.specs.FinMap as finite
 use Rattle.std.proofs.lemmas.Bool.{eqb-true, false≢true}
 use Rattle.hb_core.specs.KeptMachine.{MachineKeeps}
-use Rattle.hb_core.specs.KeptOrder.{StandsInOrder, StandsOutside}
+use Rattle.hb_core.specs.KeptOrder.{StandsOutside, StandsSomewhere}
 use Rattle.hb_core.specs.KeptSequence.{IsInSequence}
 use Rattle.hb_core.specs.Machines.{Machine}
 use Rattle.hb_core.specs.Runs.{left_count}
@@ -103,8 +103,8 @@ each_in_recursion P (x ∷ rest) all l (inl is) = subst P is all.0
 each_in_recursion P (x ∷ rest) all l (inr later) = each_in_recursion P rest all.1 l later
 
 module _ (m : Machine) (keeps : MachineKeeps m) (none : left_count m ≡ 0) where
-  stands_there : (a : Answered) → In a m.answered → StandsOutside a.reply ⊎ ((place : ℕ) × StandsInOrder m a.line a.reply place)
-  stands_there a given = each_in (λ (a : Answered). StandsOutside a.reply ⊎ ((place : ℕ) × StandsInOrder m a.line a.reply place)) m.answered keeps.replies_stand.answers a given
+  stands_there : (a : Answered) → In a m.answered → StandsSomewhere m.order a
+  stands_there a given = each_in (StandsSomewhere m.order) m.answered keeps.replies_stand.answers a given
 
   not_there : (a : Answered) → In a m.answered → StandsOutside a.reply → (e : Entry) → In e m.order → e.line.number ≡ a.line → ⊥
   not_there a given outside e there = each_in (λ (e : Entry). e.line.number ≡ a.line → ⊥) m.order

@@ -2,7 +2,8 @@
 use Rattle.std.proofs.Common.{ℕ, ◌+◌, ◌≤◌, List, Option, None, IsSome, refl, subst, arith}
 use Rattle.hb_core.specs.Laws.{HasOnePage}
 use Rattle.hb_core.specs.Machines.{Machine}
-use Rattle.hb_core.specs.Runs.{CountsFaults, IsPrefixImage}
+use Rattle.hb_core.specs.MomentLaws.{IsPrefixImage}
+use Rattle.hb_core.specs.Runs.{CountsFaults}
 use Rattle.hb_core.specs.SteppingLaws.{IsBegunOver}
 use Rattle.hb_disk.proofs.Facts.RunLaws.{Leaves-then, Leaves-weaker}
 use Rattle.hb_disk.specs.Model.{DiskModel}

@@ -1,8 +1,9 @@
 -- What a run of a core over a store that was just opened comes to, as the program says it.
-use Rattle.std.proofs.Common.{◌≡◌, ◌≢◌, ◌⊎◌, inl, inr, Bool, ℕ, ◌≤◌, List, [], ◌++◌, All, Option, None, IsSome, refl, sym, ap, subst, ◌∙◌, arith}
+use Rattle.std.proofs.Common.{◌≡◌, ◌≢◌, ◌⊎◌, inl, inr, Bool, ℕ, ◌≤◌, List, [], ◌++◌, Option, None, IsSome, refl, sym, ap, subst, ◌∙◌, arith}
 use Rattle.hb_core.specs.KeepingLaws.{BegunKeepsAll, HasKeptAll}
 use Rattle.hb_core.specs.Machines.{Files, Machine, settled_count}
-use Rattle.hb_core.specs.Runs.{AreAnswers, ChangesFile, CountsFaults, HasRun, IsPrefixImage}
+use Rattle.hb_core.specs.MomentLaws.{IsPrefixImage}
+use Rattle.hb_core.specs.Runs.{AreAnswers, ChangesFile, CountsFaults, HasRun}
 use Rattle.hb_core.specs.Showing.{RunningCore, ShowsFiles}
 use Rattle.hb_core.specs.SteppingLaws.{BeginningKeepsAll, IsBegunOver}
 use Rattle.hb_core.specs.declared.endings.End.{End}
@@ -11,7 +12,6 @@ use Rattle.hb_disk.proofs.Facts.RewriteLaws.{Becomes-tells}
 use Rattle.hb_disk.specs.Calls.{Becomes}
 use Rattle.hb_disk.specs.Model.{DiskModel, IsDisk}
 use Rattle.hb_drive.specs.Driving.{EndsWith, run_text}
-use Rattle.hb_space.specs.Actors.{IsActor}
 use Rattle.hb_layout.specs.Offsets.{file_size}
 use Rattle.hb_lemmas.proofs.Options.{at_value, if_value, has_value}
 use Rattle.hb_ops.specs.Files.{FileState, contents_of}
@@ -29,7 +29,6 @@ use Rattle.hb_store.specs.States.{IsNew, StoreState}
 use Rattle.hb_store.specs.declared.stops.StopWhy.{StopWhy}
 use Rattle.hb_store.specs.declared.stops.StopWhy.TheVariants as stops
 use Rattle.std.specs.Prelude.{take}
-use Rattle.std.proofs.lemmas.List.Elements.{All-weaker}
 use Rattle.hbpi.proofs.Begins.{IsBegunHere}
 use Rattle.hbpi.proofs.Opened.{even_store, since_start}
 use Rattle.hbpi.specs.Codes.{status_after}
@@ -38,9 +37,6 @@ use Rattle.hbpi.specs.StepEnds.{RanEnds}
 use Rattle.hbpi.specs.Drives.{LeavesPrefixes, TakesSteps}
 use Rattle.hbpi.specs.Outcome.{GetsLine, fault_line}
 use Rattle.hbpi.specs.SeenRuns.{Run}
-
-pub are_actors : (steps : List ℕ) → All (λ actor. (1 ≤ actor) × (actor ≤ 19)) steps → All IsActor steps
-are_actors steps all = All-weaker (λ actor. (1 ≤ actor) × (actor ≤ 19)) IsActor (λ actor is. record { from_1 = is.0; to_19 = is.1 }) steps all
 
 -- where nothing has stopped the machine, each image opens to the file that is durable
 settled_even : (e : DiskModel) (n : RecordSet) (old m : Machine) (files : Files) → HasKeptAll n old m files → ShowsFiles e m → m.stop ≡ None

@@ -1,7 +1,8 @@
 -- What a tidying of a file that was just opened comes to, seen from before the opening.
 use Rattle.std.proofs.Common.{◌≡◌, ℕ, List, [], Option, None, IfSome, Result, Ok, Err, sym, ap, ◌∙◌, subst}
 use Rattle.hb_core.specs.Machines.{Files, Machine, current_file}
-use Rattle.hb_core.specs.Runs.{ChangesFile, CountsFaults, IsPrefixImage}
+use Rattle.hb_core.specs.MomentLaws.{IsPrefixImage}
+use Rattle.hb_core.specs.Runs.{ChangesFile, CountsFaults}
 use Rattle.hb_core.specs.Showing.{RunningCore, ShowsFiles}
 use Rattle.hb_core.specs.SteppingLaws.{IsBegunOver}
 use Rattle.hb_core.specs.declared.counts.TidyCounts.{TidyCounts}

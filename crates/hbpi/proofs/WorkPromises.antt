@@ -1,11 +1,11 @@
 -- What `work` says over a disk that tells: the records of the one file to which every image opens then.
-use Rattle.std.proofs.Common.{◌≡◌, inl, inr, ℕ, ◌<◌, ◌≤◌, List, [], ◌∷◌, length, Some, None, refl, sym, ap, subst, ◌∙◌, arith}
+use Rattle.std.proofs.Common.{◌≡◌, inl, inr, ℕ, ◌≤◌, List, [], ◌∷◌, length, Some, None, refl, sym, ap, subst, ◌∙◌, arith}
 use Rattle.std.specs.List.{slice_get}
 use Rattle.std.specs.FinMap as finite
 use Rattle.std.proofs.lemmas.List.{take_all}
 use Rattle.hb_core.specs.KeepingLaws.{BegunKeepsAll}
 use Rattle.hb_core.specs.KeptMachine.{CoreKeeps}
-use Rattle.hb_core.specs.KeptOrder.{StandsInOrder}
+use Rattle.hb_core.specs.KeptOrder.{IsSettledIn, StandsInOrder}
 use Rattle.hb_core.specs.Machines.{Files, Machine, settled_count}
 use Rattle.hb_core.specs.Runs.{left_count}
 use Rattle.hb_lemmas.proofs.Options.{at_value}
@@ -15,7 +15,6 @@ use Rattle.hb_set.specs.Machine.{RecordSet}
 use Rattle.hb_set.specs.Order.{Entry, result_of}
 use Rattle.hb_store.specs.Opening.{OpensToOne}
 use Rattle.hb_wal.proofs.Facts.Marks.{mark_inside}
-use Rattle.hb_set.specs.declared.scripts.Answered.{Answered}
 use Rattle.hbpi.proofs.RecordsLeft.{entry_answer, in_order}
 use Rattle.hbpi.proofs.EndLaws.{no_done}
 use Rattle.hbpi.proofs.Promises.{not_done}
@@ -43,8 +42,8 @@ module _ (n : RecordSet) (m : Machine) (files : Files) (keeps : CoreKeeps n m fi
       let last = last_entry x rest in
       let there : slice_get m.order (length rest) ≡ Some last.0 = ap (λ (o : List Entry). slice_get o (length rest)) is ∙ last.1 in
       let a = entry_answer m keeps.kept none last.0 (in_order m.order (length rest) last.0 there) in
-      let stands : StandsInOrder m a.0.line a.0.reply (length rest) = record { entry = last.0; there = there; number_is = sym a.2; reply_is = sym a.3 } in
-      let below = each_in (λ (a : Answered). (place : ℕ) → StandsInOrder m a.line a.reply place → place < settled_count m) m.answered keeps.pending_prefix.settled a.0 a.1 (length rest) stands in
+      let stands : StandsInOrder m.order a.0.line a.0.reply (length rest) = record { entry = last.0; there = there; number_is = sym a.2; reply_is = sym a.3 } in
+      let below = each_in (IsSettledIn m) m.answered keeps.pending_prefix.settled a.0 a.1 (length rest) stands in
       omega (arith, below)
 
   pub all_settled : length m.order ≤ settled_count m

@@ -1,18 +1,17 @@
 -- What a run of `check` leaves, by its status.
-use Rattle.std.specs.Prelude.{◌≡◌, ◌⊎◌, ℕ, List, [], ◌++◌, codes, length, Some}
+use Rattle.std.specs.Prelude.{◌≡◌, ◌⊎◌, ℕ, List, ◌++◌, codes, length, Some}
 use Rattle.std.specs.Fmt.{decimal}
 use Rattle.hb_layout.specs.declared.meta.Meta.{Meta}
 use Rattle.hb_ops.specs.Files.{FileState, file_records}
 use Rattle.hb_ops.specs.Sound.{IsSound}
 use Rattle.hb_outside.specs.Streams.{Appends, Rose}
 use Rattle.hb_restart.specs.declared.faults.OpenFault.{OpenFault}
-use Rattle.hb_restart.specs.Leaving.{LeavesOpening, OpensStore, RunsThrough}
 use Rattle.hb_store.specs.Opening.{IsEven, OpensTo}
 use Rattle.hb_store.specs.States.{StoreState}
 use Rattle.hbpi.specs.Codes.{status_of}
-use Rattle.hbpi.specs.Driven.{IsShutOut}
+use Rattle.hbpi.specs.Driven.{IsShutOut, OnlyOpens}
 use Rattle.hbpi.specs.Saying.{IsSaid}
-use Rattle.hbpi.specs.SeenRuns.{HasFailed, IsUnread, Run}
+use Rattle.hbpi.specs.SeenRuns.{HasFailed, Run}
 use Rattle.hbpi.specs.declared.statuses.Status.{Status}
 use Rattle.hbpi.specs.declared.statuses.Status.TheVariants.{Done, NoMemory}
 
@@ -20,20 +19,11 @@ use Rattle.hbpi.specs.declared.statuses.Status.TheVariants.{Done, NoMemory}
 abbrev pub sound_text : Meta → ℕ → List ℕ
 sound_text meta records = codes "sound height " ++ decimal meta.height ++ codes " pages " ++ decimal meta.live ++ codes " records " ++ decimal records ++ codes "\n"
 
--- A sound file of so many records was opened, nothing else was done to the disk, and the source wasn't read.
-pub record IsChecked (run : Run) (store : StoreState) (records : ℕ) : Type 0 where
-  pub opens : OpensStore run.before run.after store records
-  pub through : RunsThrough store.meta.high run.before run.after
-  pub leaves : LeavesOpening ⊥ run.before run.after
-  pub unread : IsUnread run.seen
-  pub none_answered : run.seen.answered ≡ []
-  pub none_ordered : run.seen.order ≡ []
-
 -- How a run of `check` ends: its file wasn't opened; or it was, and its line was said.
 abbrev pub CheckEnds : Run → Status → Type 0
 CheckEnds run status =
     ((fault : OpenFault) × (status ≡ status_of fault) × IsShutOut run fault)
-    ⊎ ((store : StoreState) × (records : ℕ) × IsChecked run store records × IsSaid (sound_text store.meta records) run.seen.sink_before run.seen.sink_after status)
+    ⊎ ((store : StoreState) × (records : ℕ) × OnlyOpens ⊥ run store records × IsSaid (sound_text store.meta records) run.seen.sink_before run.seen.sink_after status)
 
 -- What follows over a disk that tells and opens to this sound file: the line has its height, its pages in use and the number of its
 -- records, and every image opens to it then, so no record was changed.

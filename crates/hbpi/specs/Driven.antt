@@ -28,6 +28,15 @@ pub record IsShutOut (run : Run) (fault : OpenFault) : Type 0 where
   pub unwritten : IsUnwritten fault → OnlyReads run.before run.after
   pub leaves : LeavesOpening (fault ≡ faults.DiskFault) run.before run.after
 
+-- A sound file of so many records was opened, the disk was at most read then, which may fail so, and the source wasn't read.
+pub record OnlyOpens (failed : Type 0) (run : Run) (store : StoreState) (records : ℕ) : Type 0 where
+  pub opens : OpensStore run.before run.after store records
+  pub through : RunsThrough store.meta.high run.before run.after
+  pub leaves : LeavesOpening failed run.before run.after
+  pub unread : IsUnread run.seen
+  pub none_answered : run.seen.answered ≡ []
+  pub none_ordered : run.seen.order ≡ []
+
 -- A file of so many attributes was opened, and nothing else was done to the disk.
 pub record IsOpened (k : ℕ) (old new : DiskModel) : Type 0 where
   pub store : StoreState

@@ -1,7 +1,8 @@
 -- What the steps of a run over a file come to.
 use Rattle.std.specs.Prelude.{◌≡◌, ℕ, ◌+◌, ◌≤◌, List, map, take, All, None, IfSome}
 use Rattle.hb_core.specs.Machines.{Machine, settled_count}
-use Rattle.hb_core.specs.Runs.{AreAnswers, CountsFaults, HoldsSince, IsPrefixImage}
+use Rattle.hb_core.specs.MomentLaws.{IsPrefixImage}
+use Rattle.hb_core.specs.Runs.{AreAnswers, CountsFaults, HoldsSince}
 use Rattle.hb_core.specs.Steps.{StepsInSequence}
 use Rattle.hb_core.specs.SteppingLaws.{IsBegun, IsBegunOver}
 use Rattle.hb_disk.specs.Calls.{Leaves}
@@ -26,7 +27,7 @@ pub record LeavesLate (d e : DiskModel) (P : List ℕ → Type 0) : Type 0 where
 -- the order, in which each point has one page; since an answer, a prefix that holds it; and at the end, where nothing has stopped
 -- the machine, one file, which has what is settled.
 pub record LeavesPrefixes (s : FileState) (d e : DiskModel) (answered : List Answered) (after : Machine) : Type 0 where
-  pub since : All (HoldsSince e (contents_of s) after) answered
+  pub since : All (HoldsSince e (contents_of s) after.order) answered
   pub even : IsEven d s → Leaves d e (IsPrefixImage (contents_of s) after.order 0)
   pub late : LeavesLate d e (IsPrefixImage (contents_of s) after.order 0)
   pub clock : after.clock ≡ e.clock

@@ -1,5 +1,5 @@
 -- What a run of `map` leaves, by its status.
-use Rattle.std.specs.Prelude.{◌≡◌, ◌⊎◌, ℕ, ◌≤◌, List, [], ◌++◌, Option, None, IfSome, Result, Ok, Err}
+use Rattle.std.specs.Prelude.{◌≡◌, ◌⊎◌, ℕ, ◌≤◌, List, ◌++◌, Option, None, IfSome, Result, Ok, Err}
 use Rattle.hb_layout.specs.declared.meta.Meta.{Meta}
 use Rattle.hb_map.specs.Map.{head_text, map_text}
 use Rattle.hb_map.specs.declared.stops.MapStop.{MapStop}
@@ -7,13 +7,12 @@ use Rattle.hb_map.specs.declared.stops.MapStop.TheVariants as stops
 use Rattle.hb_ops.specs.Files.{FileState}
 use Rattle.hb_outside.specs.Streams.{Appends, AppendsFront, IsFront, Rose}
 use Rattle.hb_restart.specs.declared.faults.OpenFault.{OpenFault}
-use Rattle.hb_restart.specs.Leaving.{LeavesOpening, OpensStore, RunsThrough}
 use Rattle.hb_store.specs.Opening.{IsEven, OpensTo}
 use Rattle.hb_store.specs.States.{StoreState}
 use Rattle.hbpi.specs.Codes.{damage_of, status_of}
-use Rattle.hbpi.specs.Driven.{IsShutOut}
+use Rattle.hbpi.specs.Driven.{IsShutOut, OnlyOpens}
 use Rattle.hbpi.specs.StepEnds.{GetsOutput}
-use Rattle.hbpi.specs.SeenRuns.{IsUnread, Run}
+use Rattle.hbpi.specs.SeenRuns.{Run}
 use Rattle.hbpi.specs.declared.statuses.Damage.TheVariants as damages
 use Rattle.hbpi.specs.declared.statuses.Status.{Status}
 use Rattle.hbpi.specs.declared.statuses.Status.TheVariants.{Done, Usage, BadText, SourceFault, SinkFault, DiskFault, Damaged, NoMemory, BadLayout, Small, Full, Spent}
@@ -25,16 +24,6 @@ map_status (Err stops.SinkFault) = SinkFault
 map_status (Err stops.ReadFault) = DiskFault
 map_status (Err (stops.Damaged page why)) = Damaged (damage_of page why)
 map_status (Err stops.NoMemory) = NoMemory
-
--- A sound file was opened, the disk was only read then, and the source wasn't read.
-pub record IsMapped (failed : Type 0) (run : Run) (store : StoreState) : Type 0 where
-  pub records : ℕ
-  pub opens : OpensStore run.before run.after store records
-  pub through : RunsThrough store.meta.high run.before run.after
-  pub leaves : LeavesOpening failed run.before run.after
-  pub unread : IsUnread run.seen
-  pub none_answered : run.seen.answered ≡ []
-  pub none_ordered : run.seen.order ≡ []
 
 -- A text is the map of the file that the bytes open to. Where the disk doesn't tell them, only its first line is known.
 pub record IsMapText (told : Option (List ℕ)) (meta : Meta) (text : List ℕ) : Type 0 where
@@ -65,7 +54,7 @@ MapsWith Spent run meta text = ⊥
 abbrev pub MapEnds : Run → Status → Type 0
 MapEnds run status =
     ((fault : OpenFault) × (status ≡ status_of fault) × IsShutOut run fault)
-    ⊎ ((store : StoreState) × (text : List ℕ) × IsMapped (status ≡ DiskFault) run store × IsMapText run.before.told store.meta text × MapsWith status run store.meta text)
+    ⊎ ((store : StoreState) × (text : List ℕ) × ((records : ℕ) × OnlyOpens (status ≡ DiskFault) run store records) × IsMapText run.before.told store.meta text × MapsWith status run store.meta text)
 
 -- What follows over a disk that tells and opens to this sound file: the map is that file's, and every image opens to it then.
 pub record KeepsMapped (s : FileState) (run : Run) : Type 0 where

@@ -1,20 +1,18 @@
 -- What follows of how a run of `drive`, `run` or `work` ends: the statements of lemmas.
 use Rattle.std.specs.Prelude.{◌≡◌, ◌⊎◌, ℕ, ◌+◌, ◌≤◌, IsTrue, List, [], map, take, All, Option, Some, Result, Ok, Err}
 use Rattle.std.specs.FinMap as finite
-use Rattle.std.specs.List.{Contains, slice_get}
-use Rattle.hb_core.specs.KeptOrder.{StandsOutside}
-use Rattle.hb_core.specs.Runs.{IsPrefixImage}
+use Rattle.std.specs.List.{Contains}
+use Rattle.hb_core.specs.KeptOrder.{StandsSomewhere}
+use Rattle.hb_core.specs.MomentLaws.{IsPrefixImage}
+use Rattle.hb_core.specs.Runs.{HoldsSince}
 use Rattle.hb_disk.specs.Calls.{Leaves}
-use Rattle.hb_disk.specs.Model.{DiskModel}
 use Rattle.hb_ops.specs.Files.{FileState, contents_of}
 use Rattle.hb_ops.specs.Sound.{IsSound}
 use Rattle.hb_outside.specs.Streams.{Appends, Rose}
 use Rattle.hb_point.specs.SessionRows.{is_answered}
 use Rattle.hb_restart.specs.Refusals.{IsUnwritten, RefusesBytes}
 use Rattle.hb_restart.specs.declared.faults.OpenFault.{OpenFault}
-use Rattle.hb_set.specs.Machine.{RecordSet}
 use Rattle.hb_set.specs.Order.{Entry, IsLegalOrder, result_of}
-use Rattle.hb_set.specs.declared.scripts.Answered.{Answered}
 use Rattle.hb_set.specs.declared.scripts.Line.{Line}
 use Rattle.hb_store.specs.Opening.{IsEven, OpensTo}
 use Rattle.hb_text.specs.Grammar.{Reading}
@@ -28,17 +26,6 @@ use Rattle.hbpi.specs.declared.origins.Origin.{Origin}
 use Rattle.hbpi.specs.declared.origins.Origin.TheVariants.{Text, Drawn}
 use Rattle.hbpi.specs.declared.statuses.Status.{Status}
 use Rattle.hbpi.specs.declared.statuses.Status.TheVariants.{Done, BadText, NoMemory}
-
--- The answered line stands at this place of the order, with its reply.
-pub record StandsAt (order : List Entry) (a : Answered) (place : ℕ) : Type 0 where
-  pub entry : Entry
-  pub there : slice_get order place ≡ Some entry
-  pub number : entry.line.number ≡ a.line
-  pub reply : entry.reply ≡ a.reply
-
--- Since its answer every image has a prefix of the order that holds it.
-abbrev pub IsHeld : DiskModel → RecordSet → List Entry → Answered → Type 0
-IsHeld e n order a = (place : ℕ) → StandsAt order a place → (c : List ℕ) → e.ImageSince a.at c → IsPrefixImage n order (place + 1) c
 
 -- some lines of the script that came
 pub record AreOfScript (origin : Origin) (k : ℕ) (seen : Seen) (order : List Entry) : Type 0 where
@@ -57,8 +44,8 @@ pub record KeepsPromise (origin : Origin) (s : FileState) (run : Run) (status : 
   pub numbers : run.seen.order ≡ map (λ e. e.line.number) order
   pub said : (order ≡ []) ⊎ AreOfScript origin s.meta.k run.seen order
   pub legal : IsLegalOrder (contents_of s) order
-  pub replied : All (λ a. StandsOutside a.reply ⊎ ((place : ℕ) × StandsAt order a place)) run.seen.answered
-  pub held : All (IsHeld run.after (contents_of s) order) run.seen.answered
+  pub replied : All (StandsSomewhere order) run.seen.answered
+  pub held : All (HoldsSince run.after (contents_of s) order) run.seen.answered
   pub crashes : IsEven run.before s → Leaves run.before run.after (IsPrefixImage (contents_of s) order 0)
   pub late : run.before.clock + 2 ≤ run.after.clock → LeavesLate run.before run.after (IsPrefixImage (contents_of s) order 0)
   pub even : status ≡ Done → (t : FileState) × (count : ℕ) × IsEven run.after t × IsSound t × (contents_of t ≡ result_of (contents_of s) (take count order))

@@ -8,6 +8,7 @@ use Rattle.hb_set.specs.Scripts.{IsScriptFor}
 use Rattle.hb_set.specs.declared.commands.Command.{Command}
 use Rattle.hb_set.specs.declared.commands.Command.TheVariants.{Insert, Delete, Lookup, Search}
 use Rattle.hb_set.specs.declared.scripts.Line.{Line}
+use Rattle.hb_space.specs.Actors.{IsActor}
 use Rattle.hb_space.specs.Boxes.{IsArea}
 use Rattle.hb_text.specs.Grammar.{Reading, text_read}
 use Rattle.hb_text.specs.declared.rules.BadLine.{BadLine}
@@ -48,14 +49,14 @@ pub record IsScript (k : ℕ) (lines : List Line) (steps : List ℕ) : Type 0 wh
   pub script : IsScriptFor k lines
   pub bodies : All HasLineBody lines
   pub boxes : All HasLineBox lines
-  pub actors : All (λ actor. (1 ≤ actor) × (actor ≤ 19)) steps
+  pub actors : All IsActor steps
 
 -- A script over k attributes came from there, whose steps are of actors, and the source hasn't failed.
 pub record ScriptCame (origin : Origin) (k : ℕ) (before after : SourceModel) (lines : List Line) (steps : List ℕ) : Type 0 where
   pub came : CameFrom origin k before after lines steps
   pub source : after.faults ≡ before.faults
   pub script : IsScriptFor k lines
-  pub actors : All (λ actor. (1 ≤ actor) × (actor ≤ 19)) steps
+  pub actors : All IsActor steps
 
 -- why no script was read of a text over k attributes
 abbrev pub NotScheduled : Bool → ℕ → SourceModel → SourceModel → Status → Type 0

@@ -1,7 +1,6 @@
 -- A run over a file before its first step.
 use Rattle.std.specs.Prelude.{◌≡◌, ◌⊎◌, ℕ, List, []}
-use Rattle.hb_core.specs.Machines.{Machine}
-use Rattle.hb_core.specs.Working.{MayStep}
+use Rattle.hb_core.specs.Relied.{MayTakeSteps}
 use Rattle.hb_core.specs.KeepingLaws.{BegunKeepsAll}
 use Rattle.hb_core.specs.Showing.{RunningCore}
 use Rattle.hb_core.specs.SteppingLaws.{BeginningKeepsAll}
@@ -51,7 +50,7 @@ pub record IsStarted (origin : Origin) (before after : SourceModel) (d e : DiskM
 pub record HasStarted (origin : Origin) (before after : SourceModel) (d e : DiskModel) (core : RunningCore) (records : ℕ) : Type 0 where
   pub started : IsStarted origin before after d e core
   pub count_is : records ≡ started.count
-  pub may : (m : Machine) × MayStep e core m
+  pub may : MayTakeSteps e core
 
 -- Or not: whatever sink the fault line is put into, such a run ends so.
 abbrev pub IsNotStarted : Origin → SourceModel → SourceModel → DiskModel → DiskModel → Status → Type 0

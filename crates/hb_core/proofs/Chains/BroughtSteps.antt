@@ -13,7 +13,8 @@ use Rattle.hb_core.proofs.Chains.BuiltSteps.{IsClearIn, IsUsedSo, MayBeIn, after
 use Rattle.hb_core.proofs.Chains.OrderOfUse.{is_tied, tied}
 use Rattle.hb_core.proofs.Chains.WrittenTables.{entry_append, entry_at, entry_has, or_else, or_stays}
 use Rattle.hb_core.specs.Acting.{takes_number}
-use Rattle.hb_core.specs.Asking.{AskedBox, HasAskedBox, asked_box, wanted_by}
+use Rattle.hb_core.specs.AskedBoxes.{HasAskedBox}
+use Rattle.hb_core.specs.Asking.{AskedBox, asked_box, wanted_by}
 use Rattle.hb_core.specs.Fetching.{Brings, IsFreeHead, IsWantedPage}
 use Rattle.hb_core.specs.Machines.{Machine, with_disk}
 use Rattle.hb_core.specs.Performing.{ChangesQueue, outcome_of}

@@ -23,7 +23,8 @@ use Rattle.hb_activity.specs.Walks.{walk_held}
 use Rattle.hb_activity.specs.Wanting.{wanted_of}
 use Rattle.hb_core.proofs.Chains.WrittenTables.{add_numbers, add_pages, among_in_log, entry_at, grants, hinders, is_another, is_clear, is_earlier, map_has, mode_in, pages_set, relatched, relatches, set_all, set_entry, set_has, standing_set, among_pages}
 use Rattle.hb_core.specs.Acting.{takes_number}
-use Rattle.hb_core.specs.Asking.{AskedBox, HasAskedBox, HasWayFree, asked_box, looked_page, wanted_by}
+use Rattle.hb_core.specs.AskedBoxes.{HasAskedBox}
+use Rattle.hb_core.specs.Asking.{AskedBox, HasWayFree, asked_box, looked_page, wanted_by}
 use Rattle.hb_core.specs.Machines.{Files, live_here}
 use Rattle.hb_core.specs.Performing.{DoesOp, MayDo, Performs, Relatches, files_after, given_by, ChangesQueue, outcome_of, PerformsAsItIs, latches_held}
 use Rattle.hb_core.specs.Rows.{IsAtHand, Row}

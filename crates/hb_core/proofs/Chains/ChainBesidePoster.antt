@@ -6,6 +6,7 @@ use Rattle.hb_latch.specs.declared.modes.Mode.TheVariants.{Exclusive, Shared}
 use Rattle.hb_set.specs.declared.commands.Reply.TheVariants as replies
 use Rattle.hb_activity.specs.declared.jobs.Job.{Job}
 use Rattle.hb_activity.specs.declared.activities.Activity.TheVariants as at
+use Rattle.hb_core.proofs.Chains.SplitPages.{bare_3, lower_2, posted_3, split_1}
 use Rattle.hb_core.specs.declared.outcomes.Outcome.TheVariants.{Moved}
 use Rattle.hb_activity.specs.Deeds.{Deed, answers_now, moves_to, takes_effect}
 use Rattle.hb_core.proofs.Chains.BuiltSteps.{after_as_it_is, after, at_hand, blocked, has_room, live_is, none_waits, one_joins, only_looks, performed, wanted_in, works, queued}
@@ -35,18 +36,6 @@ use Rattle.hb_poster.specs.Examples.{page_three as bare_root}
 
 -- ---- the pages
 
-abbrev page_1 : ℕ × Page
-page_1 = (1, Live split_page)
-
-abbrev page_2 : ℕ × Page
-page_2 = (2, Live lower_half)
-
-abbrev page_3 : ℕ × Page
-page_3 = (3, Live bare_root)
-
-abbrev root_posted : ℕ × Page
-root_posted = (3, Live posted_root)
-
 abbrev page_2_later : ℕ × Page
 page_2_later = (2, Live lower_two)
 
@@ -56,28 +45,28 @@ abbrev job_taken : Scene
 job_taken = after_as_it_is 17 (takes (at.PosterWalk job None)) [] beside_before
 
 abbrev at_root : Scene
-at_root = after (page_1 ∷ page_2 ∷ page_3 ∷ []) 17 arrives [] job_taken
+at_root = after (split_1 ∷ lower_2 ∷ bare_3 ∷ []) 17 arrives [] job_taken
 
 abbrev line_taken : Scene
 line_taken = after_as_it_is 1 (taking seeks_twenty) [] at_root
 
 abbrev to_promote : Scene
-to_promote = after (page_2 ∷ page_1 ∷ page_3 ∷ []) 17 looks [] line_taken
+to_promote = after (lower_2 ∷ split_1 ∷ bare_3 ∷ []) 17 looks [] line_taken
 
 abbrev shares : Deed
 shares = moves_to (at.SessionWalk seeks_twenty (Some 3) [] []) []
 
 abbrev both_at_root : Scene
-both_at_root = after (page_2 ∷ page_1 ∷ page_3 ∷ []) 1 shares [] to_promote
+both_at_root = after (lower_2 ∷ split_1 ∷ bare_3 ∷ []) 1 shares [] to_promote
 
 abbrev steps_down : Deed
 steps_down = moves_to (at.SessionWalk seeks_twenty (Some 1) [] []) (posts_at 20 ∷ [])
 
 abbrev is_below : Scene
-is_below = after (page_2 ∷ page_3 ∷ page_1 ∷ []) 1 steps_down (posts_at 20 ∷ []) both_at_root
+is_below = after (lower_2 ∷ bare_3 ∷ split_1 ∷ []) 1 steps_down (posts_at 20 ∷ []) both_at_root
 
 abbrev is_promoted : Scene
-is_promoted = after (page_2 ∷ page_1 ∷ page_3 ∷ []) 17 promotes (posts_at 20 ∷ []) is_below
+is_promoted = after (lower_2 ∷ split_1 ∷ bare_3 ∷ []) 17 promotes (posts_at 20 ∷ []) is_below
 
 abbrev other_taken : Scene
 other_taken = after_as_it_is 2 (taking deletes_thirty) (posts_at 20 ∷ []) is_promoted
@@ -86,25 +75,25 @@ abbrev two_jobs : List Job
 two_jobs = posts_at 20 ∷ posts_at 10 ∷ []
 
 abbrev is_posted : Scene
-is_posted = after (page_2 ∷ page_1 ∷ root_posted ∷ []) 17 posts two_jobs other_taken
+is_posted = after (lower_2 ∷ split_1 ∷ posted_3 ∷ []) 17 posts two_jobs other_taken
 
 abbrev passes_root : Deed
 passes_root = moves_to (at.SessionWalk deletes_thirty (Some 3) [] []) []
 
 abbrev root_passed : Scene
-root_passed = after (page_2 ∷ page_1 ∷ root_posted ∷ []) 2 passes_root two_jobs is_posted
+root_passed = after (lower_2 ∷ split_1 ∷ posted_3 ∷ []) 2 passes_root two_jobs is_posted
 
 abbrev deletes : Deed
 deletes = takes_effect 0 deletes_thirty replies.Done (Some (ops.Del 2 (30 ∷ []))) []
 
 abbrev is_deleted : Scene
-is_deleted = after (page_1 ∷ root_posted ∷ page_2_later ∷ []) 2 deletes two_jobs root_passed
+is_deleted = after (split_1 ∷ posted_3 ∷ page_2_later ∷ []) 2 deletes two_jobs root_passed
 
 abbrev finds : Deed
 finds = takes_effect 1 seeks_twenty (replies.Found (98 ∷ [])) None []
 
 abbrev is_found : Scene
-is_found = after (page_1 ∷ root_posted ∷ page_2_later ∷ []) 1 finds two_jobs is_deleted
+is_found = after (split_1 ∷ posted_3 ∷ page_2_later ∷ []) 1 finds two_jobs is_deleted
 
 abbrev is_forced : Scene
 is_forced = forced_scene is_found

@@ -1,5 +1,5 @@
 -- Commands that change nothing: each step of the chain.
-use Rattle.std.proofs.Common.{◌≢◌, inl, inr, List, [], ◌∷◌, Option, Some, None, AllPairs, refl, ap, arith, ℕ}
+use Rattle.std.proofs.Common.{◌≢◌, inl, inr, List, [], ◌∷◌, Option, Some, None, AllPairs, refl, ap, arith}
 use Rattle.std.proofs.lemmas.List.Sorted.{IsPermutation-refl}
 use Rattle.hb_space.specs.declared.records.Record.{Record}
 use Rattle.hb_frag.specs.declared.pages.LivePage.{LivePage}
@@ -9,6 +9,7 @@ use Rattle.hb_activity.specs.Deeds.{Deed, answers_now, moves_to, takes_effect}
 use Rattle.hb_core.proofs.Chains.BuiltSteps.{after_as_it_is, after, at_hand, has_room, live_is, none_waits, one_joins, only_looks, performed, queued, wanted_in, works}
 use Rattle.hb_core.proofs.Chains.TakenLines.{takes_line}
 use Rattle.hb_core.proofs.Chains.ChainOfTwoParts.{differ}
+use Rattle.hb_core.proofs.Chains.SplitPages.{lower_2, split_1}
 use Rattle.hb_core.specs.Asking.{box_at}
 use Rattle.hb_core.specs.ChainOfCommands.{CommandsOfOne, asked_area, commands_before, deletes_none, inserts_fifty, searches, three_found}
 use Rattle.hb_core.specs.ChainOfPosting.{split_page}
@@ -21,16 +22,6 @@ use Rattle.hb_point.specs.SessionRows.{taking}
 use Rattle.hb_frag.proofs.Facts.RisingRecords.{rising}
 use Rattle.hb_space.specs.Boxes.{Area}
 use Rattle.std.proofs.lemmas.List.Elements.{All-from_recursion}
-use Rattle.hb_frag.specs.declared.pages.Page.{Page}
-use Rattle.hb_frag.specs.declared.pages.Page.TheVariants.{Live}
-
--- ---- the pages
-
-abbrev page_1 : ℕ × Page
-page_1 = (1, Live split_page)
-
-abbrev page_2 : ℕ × Page
-page_2 = (2, Live lower_half)
 
 -- ---- the scenes, one after the other
 
@@ -41,7 +32,7 @@ abbrev finds_twin : Deed
 finds_twin = takes_effect 0 inserts_fifty replies.Duplicate None []
 
 abbrev first_done : Scene
-first_done = after (page_2 ∷ page_1 ∷ []) 1 finds_twin [] first_taken
+first_done = after (lower_2 ∷ split_1 ∷ []) 1 finds_twin [] first_taken
 
 abbrev first_answered : Scene
 first_answered = after_as_it_is 1 (answers_now 1 replies.Duplicate) [] first_done
@@ -53,7 +44,7 @@ abbrev finds_nothing : Deed
 finds_nothing = takes_effect 1 deletes_none replies.Absent None []
 
 abbrev second_done : Scene
-second_done = after (page_2 ∷ page_1 ∷ []) 1 finds_nothing [] second_taken
+second_done = after (lower_2 ∷ split_1 ∷ []) 1 finds_nothing [] second_taken
 
 abbrev second_answered : Scene
 second_answered = after_as_it_is 1 (answers_now 2 replies.Absent) [] second_done
@@ -65,7 +56,7 @@ abbrev passes : Deed
 passes = moves_to (SessionWalk searches (Some 1) (asked_area ∷ []) []) (posts_at 25 ∷ [])
 
 abbrev is_passed : Scene
-is_passed = after (page_2 ∷ page_1 ∷ []) 1 passes (posts_at 25 ∷ []) third_taken
+is_passed = after (lower_2 ∷ split_1 ∷ []) 1 passes (posts_at 25 ∷ []) third_taken
 
 -- what lies behind page 2's box
 abbrev rest_area : Area
@@ -75,13 +66,13 @@ abbrev gathers : Deed
 gathers = moves_to (SessionWalk searches None (rest_area ∷ []) (lettered 30 99 ∷ [])) []
 
 abbrev half_gathered : Scene
-half_gathered = after (page_1 ∷ page_2 ∷ []) 1 gathers (posts_at 25 ∷ []) is_passed
+half_gathered = after (split_1 ∷ lower_2 ∷ []) 1 gathers (posts_at 25 ∷ []) is_passed
 
 abbrev gathers_all : Deed
 gathers_all = takes_effect 2 searches (replies.Within three_found) None []
 
 abbrev all_gathered : Scene
-all_gathered = after (page_2 ∷ page_1 ∷ []) 1 gathers_all (posts_at 25 ∷ []) half_gathered
+all_gathered = after (lower_2 ∷ split_1 ∷ []) 1 gathers_all (posts_at 25 ∷ []) half_gathered
 
 abbrev all_answered : Scene
 all_answered = after_as_it_is 1 (answers_now 3 (replies.Within three_found)) (posts_at 25 ∷ []) all_gathered

@@ -22,7 +22,8 @@ use Rattle.hb_ops.specs.Recording.{FitsPut}
 use Rattle.hb_lemmas.specs.Numbers.{big_endian}
 use Rattle.hb_point.specs.SessionRows.{taking}
 use Rattle.hb_space.proofs.Facts.Intervals.{cuts, top}
-use Rattle.hb_core.proofs.Chains.SplitRows.{finds_no_room, lower_2, no_room_row, put_row, puts, split_row, splits, upper_1, whole_1, with_seventy}
+use Rattle.hb_core.proofs.Chains.SplitPages.{lower_2}
+use Rattle.hb_core.proofs.Chains.SplitRows.{finds_no_room, no_room_row, put_row, puts, split_row, splits, upper_1, whole_1, with_seventy}
 
 -- ---- the scenes, one after the other
 

@@ -241,16 +241,18 @@ gone_fits = record {
 
 merge_fits : FitsMerge raised_meta 3 1 2 two_children keeping_page (going_page one_to_go)
 merge_fits = record {
-  others = (λ same. absurd (omega (arith, same)), λ same. absurd (omega (arith, same)));
-  two = λ same. absurd (omega (arith, same));
+  pages = record {
+    others = (λ same. absurd (omega (arith, same)), λ same. absurd (omega (arith, same)));
+    two = λ same. absurd (omega (arith, same));
+    above_made = parent_fits;
+    kept_made = keep_fits;
+    gone_made = gone_fits;
+    kept_level = refl;
+    gone_level = refl;
+    names_kept = (zero, omega arith, refl);
+    names_gone = (suc zero, omega arith, refl);
+  };
   some_live = omega arith;
-  above_made = parent_fits;
-  kept_made = keep_fits;
-  gone_made = gone_fits;
-  kept_level = refl;
-  gone_level = refl;
-  names_kept = (zero, omega arith, refl);
-  names_gone = (suc zero, omega arith, refl);
   may = light_enough;
 }
 

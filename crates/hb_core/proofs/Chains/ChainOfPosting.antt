@@ -3,8 +3,9 @@ use Rattle.hb_layout.specs.declared.meta.Meta.{Meta}
 use Rattle.hb_latch.specs.declared.modes.Mode.TheVariants.{Exclusive, Shared, Update}
 use Rattle.hb_activity.specs.Wanting.{wanted_page}
 use Rattle.hb_terms.specs.declared.plans.PostPlan.{PostPlan}
+use Rattle.hb_core.proofs.Chains.SplitPages.{bare_3, lower_2, posted_3, split_1}
 use Rattle.hb_core.specs.Machines.{live_here}
-use Rattle.std.proofs.Common.{◌≡◌, ◌≢◌, ◌∙◌, inl, inr, zero, suc, [], ◌∷◌, Option, Some, None, IsSomeAnd, refl, sym, ap, subst, arith, ℕ}
+use Rattle.std.proofs.Common.{◌≡◌, ◌≢◌, ◌∙◌, inl, inr, zero, suc, [], ◌∷◌, Option, Some, None, IsSomeAnd, refl, sym, ap, subst, arith}
 use Rattle.hb_frag.specs.declared.pages.LivePage.{LivePage}
 use Rattle.hb_frag.specs.declared.leaves.Leaf.{Leaf}
 use Rattle.hb_frag.specs.declared.leaves.Leaf.TheVariants.{Records, Child, Sibling}
@@ -37,22 +38,8 @@ use Rattle.hb_space.proofs.Facts.Intervals.{interval, top, within}
 use Rattle.hb_space.specs.Boxes.{Meets, side_below, whole_area}
 use Rattle.hb_terms.specs.Plans.{IsPlan}
 use Rattle.std.proofs.lemmas.List.Elements.{All-from_recursion}
-use Rattle.hb_frag.specs.declared.pages.Page.{Page}
-use Rattle.hb_frag.specs.declared.pages.Page.TheVariants.{Live}
 
--- ---- the pages
-
-abbrev page_1 : ℕ × Page
-page_1 = (1, Live split_page)
-
-abbrev page_2 : ℕ × Page
-page_2 = (2, Live lower_half)
-
-abbrev page_3 : ℕ × Page
-page_3 = (3, Live bare_root)
-
-abbrev root_posted : ℕ × Page
-root_posted = (3, Live posted_root)
+-- ---- the job
 
 abbrev pub job : Job
 job = posts_at 10
@@ -69,7 +56,7 @@ abbrev grows : Deed
 grows = does at.PosterIdle (ops.Grow 3 0) (job ∷ [])
 
 abbrev is_grown : Scene
-is_grown = after (page_2 ∷ page_1 ∷ page_3 ∷ []) 17 grows (job ∷ []) is_taken
+is_grown = after (lower_2 ∷ split_1 ∷ bare_3 ∷ []) 17 grows (job ∷ []) is_taken
 
 abbrev taken_again : Scene
 taken_again = after_as_it_is 17 (takes (at.PosterWalk job None)) [] is_grown
@@ -78,34 +65,34 @@ abbrev pub arrives : Deed
 arrives = moves_to (at.PosterChild job 3) []
 
 abbrev at_child : Scene
-at_child = after (page_2 ∷ page_1 ∷ page_3 ∷ []) 17 arrives [] taken_again
+at_child = after (lower_2 ∷ split_1 ∷ bare_3 ∷ []) 17 arrives [] taken_again
 
 abbrev pub looks : Deed
 looks = moves_to (at.PosterPromote job 3) []
 
 abbrev to_promote : Scene
-to_promote = after (page_2 ∷ page_1 ∷ page_3 ∷ []) 17 looks [] at_child
+to_promote = after (lower_2 ∷ split_1 ∷ bare_3 ∷ []) 17 looks [] at_child
 
 abbrev pub promotes : Deed
 promotes = moves_to (at.PosterAgain job 3) []
 
 abbrev is_promoted : Scene
-is_promoted = after (page_2 ∷ page_1 ∷ page_3 ∷ []) 17 promotes [] to_promote
+is_promoted = after (lower_2 ∷ split_1 ∷ bare_3 ∷ []) 17 promotes [] to_promote
 
 abbrev pub posts : Deed
 posts = does at.PosterIdle (ops.Post 3 [] 2 (side_below (whole_area 1) 0 40)) (job ∷ [])
 
 abbrev is_posted : Scene
-is_posted = after (page_2 ∷ page_1 ∷ root_posted ∷ []) 17 posts (job ∷ []) is_promoted
+is_posted = after (lower_2 ∷ split_1 ∷ posted_3 ∷ []) 17 posts (job ∷ []) is_promoted
 
 abbrev taken_last : Scene
 taken_last = after_as_it_is 17 (takes (at.PosterWalk job None)) [] is_posted
 
 abbrev at_last : Scene
-at_last = after (page_2 ∷ page_1 ∷ root_posted ∷ []) 17 arrives [] taken_last
+at_last = after (lower_2 ∷ split_1 ∷ posted_3 ∷ []) 17 arrives [] taken_last
 
 abbrev is_ended : Scene
-is_ended = after (page_1 ∷ root_posted ∷ page_2 ∷ []) 17 ends_job [] at_last
+is_ended = after (split_1 ∷ posted_3 ∷ lower_2 ∷ []) 17 ends_job [] at_last
 
 -- ---- what the operations ask for
 

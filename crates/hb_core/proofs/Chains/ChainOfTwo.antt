@@ -1,5 +1,6 @@
 -- Two sessions on one page: each step of the chain.
-use Rattle.hb_core.proofs.Chains.SplitRows.{finds_no_room, lower_2, no_room_row, put_row, put_1, puts, split_row, splits, upper_1, whole_1, with_seventy}
+use Rattle.hb_core.proofs.Chains.SplitPages.{lower_2}
+use Rattle.hb_core.proofs.Chains.SplitRows.{finds_no_room, no_room_row, put_row, put_1, puts, split_row, splits, upper_1, whole_1, with_seventy}
 use Rattle.std.proofs.Common.{◌≡◌, inl, inr, [], ◌∷◌, slice_index, Contains, Option, Some, None, refl, ap, arith, true, false}
 use Rattle.hb_frag.specs.declared.pages.LivePage.{LivePage}
 use Rattle.hb_latch.specs.declared.modes.Mode.TheVariants.{Exclusive}

@@ -94,7 +94,7 @@ chosen_at_forty = record {
   way = refl;
   part = (full_page.frag, full_page.area);
   found = refl;
-  chosen = (record { records = six; leaf = refl; heavy = omega arith; best = best_at_forty; side = refl }, omega arith);
+  chosen = (record { records = six; leaf = refl; heavy = omega arith; best = record { plane = best_at_forty; side = refl } }, omega arith);
 }
 
 pub extract_fits : FitsExtract (line_meta 1) full_page 2 [] (at_forty ∷ []) 0

@@ -10,7 +10,8 @@ use Rattle.hb_activity.specs.Deeds.{Deed, does, moves_to, takes_effect}
 use Rattle.hb_activity.specs.Wanting.{wanted_page}
 use Rattle.hb_core.proofs.Chains.BuiltSteps.{after, live_in, live_is}
 use Rattle.hb_core.proofs.Chains.ChainOfTwoParts.{chosen_at_forty, seventy_absent, seventy_held}
-use Rattle.hb_core.specs.ChainOfTwo.{full_page, inserts_seventy, lettered, lower_half, posts_at, upper_half, upper_three}
+use Rattle.hb_core.proofs.Chains.SplitPages.{lower_2}
+use Rattle.hb_core.specs.ChainOfTwo.{full_page, inserts_seventy, lettered, posts_at, upper_half, upper_three}
 use Rattle.hb_core.specs.Machines.{next_of}
 use Rattle.hb_core.specs.Rows.{Row}
 use Rattle.hb_core.specs.Scenes.{Scene, machine_of, store_of}
@@ -24,9 +25,6 @@ whole_1 = (1, Live full_page)
 
 abbrev pub upper_1 : ℕ × Page
 upper_1 = (1, Live (upper_half upper_three))
-
-abbrev pub lower_2 : ℕ × Page
-lower_2 = (2, Live lower_half)
 
 abbrev pub put_1 : ℕ × Page
 put_1 = (1, Live (upper_half (upper_three ++ lettered 70 103 ∷ [])))

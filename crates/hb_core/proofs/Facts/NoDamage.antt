@@ -27,7 +27,8 @@ use Rattle.hb_core.proofs.TwoSteps.OneOutcome.{outcome_is_one, state_is_one}
 use Rattle.hb_core.proofs.Files.SoundFiles.{FilesHold, brought_shown, current_sound, files_hold}
 use Rattle.hb_core.proofs.Facts.StepKinds.{each_kind, FlushesMore, ready_kind}
 use Rattle.hb_core.specs.Acting.{IsBadWanted, MeetsBadPage, NeedsNumber}
-use Rattle.hb_core.specs.Asking.{AskedBox, HasAskedBox, IsNotAsked, asked_box, box_at, box_of_child, looked_live, this_box, wanted_by}
+use Rattle.hb_core.specs.AskedBoxes.{HasAskedBox, IsNotAsked}
+use Rattle.hb_core.specs.Asking.{AskedBox, asked_box, box_at, box_of_child, looked_live, this_box, wanted_by}
 use Rattle.hb_core.specs.DamageLaws.{IsRefusedOrFails, IsUndamaged, KeptStepIsOne, NoPageIsDamaged, StaysUndamaged}
 use Rattle.hb_core.specs.Fetching.{Brings, IsBadHead, IsBadRead, IsDamaged}
 use Rattle.hb_core.specs.Forcing.{ForcesAll, StaysSo}

@@ -3,8 +3,7 @@ use Rattle.std.proofs.Common.{ℕ, ◌≤◌, List, ◌++◌, sym, ap, ◌∙◌
 use Rattle.std.proofs.lemmas.List.{length-append, take-append-le}
 use Rattle.hb_core.specs.KeptMachine.{CoreKeeps}
 use Rattle.hb_core.specs.Machines.{Files, Machine, settled_count}
-use Rattle.hb_core.specs.MomentLaws.{ImagesHavePrefixes}
-use Rattle.hb_core.specs.Runs.{IsPrefixImage}
+use Rattle.hb_core.specs.MomentLaws.{ImagesHavePrefixes, IsPrefixImage}
 use Rattle.hb_set.specs.Machine.{RecordSet}
 use Rattle.hb_set.specs.Order.{Entry, result_of}
 use Rattle.hb_store.specs.Keeps.{OpensToEither}
@@ -33,6 +32,4 @@ prefix_longer n order more least bytes image =
 
 -- What a machine keeps of an image that opens to one of its files: a prefix with all that is settled.
 pub settled_prefix : ImagesHavePrefixes → (n : RecordSet) (m : Machine) (files : Files) (bytes : List ℕ) → CoreKeeps n m files → OpensToEither files.durable files.later bytes → IsPrefixImage n m.order (settled_count m) bytes
-settled_prefix images n m files bytes keeps opens =
-    let image = images n m files bytes keeps opens in
-    record { s = image.s; opens = image.opens; sound = image.sound; pages = image.pages; count = image.count; enough = image.enough; inside = image.after.inside; contents = image.after.contents }
+settled_prefix images n m files bytes keeps opens = (images n m files bytes keeps opens).image

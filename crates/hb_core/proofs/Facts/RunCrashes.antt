@@ -1,15 +1,14 @@
 -- What crashes leave of a run, one step more.
-use Rattle.hb_core.proofs.Orders.OrderPlaces.{StandsSomewhere}
-use Rattle.hb_core.proofs.Orders.PendingKept.{IsSettledIn}
 use Rattle.std.proofs.Common.{◌≡◌, ◌⊎◌, inl, inr, ℕ, ◌+◌, ◌≤◌, List, ◌++◌, get_or, All, sym, subst, arith}
 use Rattle.std.proofs.lemmas.List.Elements.{All-append}
 use Rattle.hb_core.proofs.Facts.PrefixImages.{prefix_less, prefix_longer, settled_prefix}
 use Rattle.hb_core.proofs.TwoSteps.SinglePlaces.{no_place, one_place, stands_longer}
 use Rattle.hb_core.specs.KeptMachine.{CoreKeeps}
-use Rattle.hb_core.specs.KeptOrder.{StandsInOrder}
+use Rattle.hb_core.specs.KeptOrder.{IsSettledIn, StandsInOrder, StandsSomewhere}
 use Rattle.hb_core.specs.Machines.{Files, Machine, settled_count}
 use Rattle.hb_core.proofs.Facts.RunDisks.{opens_kept}
-use Rattle.hb_core.specs.Runs.{CrashesTo, HoldsSince, IsPrefixImage, RunningLaws}
+use Rattle.hb_core.specs.MomentLaws.{IsPrefixImage}
+use Rattle.hb_core.specs.Runs.{CrashesTo, HoldsSince, RunningLaws}
 use Rattle.hb_disk.proofs.Facts.RunLaws.{Leaves-then, Leaves-weaker}
 use Rattle.hb_disk.specs.Calls.{Leaves}
 use Rattle.hb_disk.specs.Model.{DiskModel, IsDisk}
@@ -49,23 +48,23 @@ module _ (laws : RunningLaws) (n : RecordSet) (d e f : DiskModel) (mid next : Ma
       (Leaves-weaker e f (OpensToEither step.files.durable step.files.later) (IsPrefixImage n next.order 0) (λ c opens. opened 0 c (omega arith) opens) step.moments)
 
   -- an answer of before: what it stands for it stood for then
-  stood : (a : Answered) (place : ℕ) → StandsSomewhere mid a → StandsInOrder next a.line a.reply place → StandsInOrder mid a.line a.reply place
-  stood a place (inl outside) stands = absurd (no_place n next a.line place a.reply step.keeps_then.order_legal.legal outside stands)
+  stood : (a : Answered) (place : ℕ) → StandsSomewhere mid.order a → StandsInOrder next.order a.line a.reply place → StandsInOrder mid.order a.line a.reply place
+  stood a place (inl outside) stands = absurd (no_place n next.order a.line place a.reply step.keeps_then.order_legal.legal outside stands)
   stood a place (inr (other, was)) stands =
-      let same = one_place n next a.line place other a.reply step.keeps_then.order_legal.legal stands (stands_longer mid next step.more a.line other a.reply step.order was) in
-      subst (λ (p : ℕ). StandsInOrder mid a.line a.reply p) (sym same) was
+      let same = one_place n next.order a.line place other a.reply step.keeps_then.order_legal.legal stands (stands_longer mid.order next.order step.more a.line other a.reply step.order was) in
+      subst (λ (p : ℕ). StandsInOrder mid.order a.line a.reply p) (sym same) was
 
-  older : (a : Answered) → HoldsSince e n mid a → StandsSomewhere mid a → IsSettledIn mid a → a.at ≤ e.clock → HoldsSince f n next a
+  older : (a : Answered) → HoldsSince e n mid.order a → StandsSomewhere mid.order a → IsSettledIn mid a → a.at ≤ e.clock → HoldsSince f n next.order a
   older a since stands settled timed place now c image = by (step.moments.before a.at c timed image)
     where
-      was : StandsInOrder mid a.line a.reply place
+      was : StandsInOrder mid.order a.line a.reply place
       was = stood a place stands now
 
       by : e.ImageSince a.at c ⊎ OpensToEither step.files.durable step.files.later c → IsPrefixImage n next.order (place + 1) c
       by (inl before) = longer (place + 1) c (since place was c before)
       by (inr opens) = let less = settled place was in opened (place + 1) c (omega (arith, less)) opens
 
-  newer : (a : Answered) → IsSettledIn next a → a.at ≡ f.clock → HoldsSince f n next a
+  newer : (a : Answered) → IsSettledIn next a → a.at ≡ f.clock → HoldsSince f n next.order a
   newer a settled timed place stands c image =
       let less = settled place stands in
       let now = disk.only_now c (subst (λ (t : ℕ). f.ImageSince t c) timed image) in
@@ -78,12 +77,12 @@ module _ (laws : RunningLaws) (n : RecordSet) (d e f : DiskModel) (mid next : Ma
   of_given : (P : Answered → Type 0) → All P next.answered → All P given
   of_given P all = All-behind P mid.answered given (subst (λ (l : List Answered). All P l) step.among_then all)
 
-  since_more : All (HoldsSince f n next) (answers ++ given)
+  since_more : All (HoldsSince f n next.order) (answers ++ given)
   since_more =
-      let stands = of_answers (StandsSomewhere mid) step.keeps.order_legal.answers in
+      let stands = of_answers (StandsSomewhere mid.order) step.keeps.kept.replies_stand.answers in
       let settled = of_answers (IsSettledIn mid) step.keeps.pending_prefix.settled in
       let settled_then = of_given (IsSettledIn next) step.keeps_then.pending_prefix.settled in
-      All-append (HoldsSince f n next) answers given (λ k x lt. older (get_or answers k x) (run.since k x lt) (stands k x lt) (settled k x lt) (step.timed k x lt)) (λ k x lt. newer (get_or given k x) (settled_then k x lt) (step.timed_then k x lt))
+      All-append (HoldsSince f n next.order) answers given (λ k x lt. older (get_or answers k x) (run.since k x lt) (stands k x lt) (settled k x lt) (step.timed k x lt)) (λ k x lt. newer (get_or given k x) (settled_then k x lt) (step.timed_then k x lt))
 
   pub crashes_more : CrashesTo n d f next (answers ++ given)
   crashes_more = record { each = each_more; since = since_more }

@@ -17,7 +17,8 @@ use Rattle.hb_core.specs.Keeps.{HasSoundFile}
 use Rattle.hb_core.specs.KeptMachine.{CoreKeeps}
 use Rattle.hb_core.specs.Machines.{Files, Machine, settled_count}
 use Rattle.hb_core.specs.Performing.{given_by}
-use Rattle.hb_core.specs.Runs.{AreAnswers, ChangesFile, CountsFaults, CrashesTo, HasRun, HoldsSince, IsPrefixImage, RunningLaws, left_count}
+use Rattle.hb_core.specs.MomentLaws.{IsPrefixImage}
+use Rattle.hb_core.specs.Runs.{AreAnswers, ChangesFile, CountsFaults, CrashesTo, HasRun, HoldsSince, RunningLaws, left_count}
 use Rattle.hb_core.specs.Showing.{RunningCore, ShowsMachine}
 use Rattle.hb_core.specs.Steps.{StepsInSequence, StepsTo}
 use Rattle.hb_core.specs.SteppingLaws.{IsBetween}
@@ -50,7 +51,7 @@ crashes_begin laws d m c disk shows n files keeps =
     let them = shows_them d c m files shows keeps.told in
     record {
       each = Leaves-start d (IsPrefixImage n m.order 0) disk (λ bytes image. prefix_less n m.order 0 (settled_count m) bytes (omega arith) (settled_prefix laws.images n m files bytes keeps (opens_kept laws.opens d m.store files.durable files.later them.kept bytes image)));
-      since = All-nil (HoldsSince d n m);
+      since = All-nil (HoldsSince d n m.order);
     }
 
 pub run_begins : RunningLaws → (d : DiskModel) (m : Machine) (c : RunningCore) → IsDisk d → MayStep d c m → HasRun d m [] [] d c

@@ -115,16 +115,16 @@ module _ (m : Machine) (actor : ℕ) (may : ℕ → Type 0) (fetched : StoreStat
   pub lacking_weighs : (held : ℕ) (p body : List ℕ) (page : LivePage) → MustStay m held → LacksRoomFor m held p body → if_live (in_memory fetched held) ≡ Some page → 6 ≤ weight_of page.frag
   lacking_weighs held p body page must lacks live =
       let rec : Record = record { key = p; body = body } in
-      let now = stays_live held lacks.page page must lacks.live live in
-      let same : lacks.page ≡ page = same_Some lacks.page page (sym now ∙ live) in
-      let weighs = put_weighs lacks.page rec lacks.absent.records lacks.absent.area (live_good fetched keeps.framed held lacks.page now).1.well_cut lacks.absent.leaf in
-      let full : 6 ≤ weight_of lacks.page.frag = omega (arith, weighs, lacks.full, dcap_same, keeps.limits.layout.dcap_least) in
+      let now = stays_live held lacks.home.page page must lacks.home.live live in
+      let same : lacks.home.page ≡ page = same_Some lacks.home.page page (sym now ∙ live) in
+      let weighs = put_weighs lacks.home.page rec lacks.home.absent.records lacks.home.absent.area (live_good fetched keeps.framed held lacks.home.page now).1.well_cut lacks.home.absent.leaf in
+      let full : 6 ≤ weight_of lacks.home.page.frag = omega (arith, weighs, lacks.full, dcap_same, keeps.limits.layout.dcap_least) in
       subst (λ (q : LivePage). 6 ≤ weight_of q.frag) same full
 
   shown_put : (line : Line) (source fresh half : ℕ) (rec : Record) (put_into : LivePage) → (half ≡ source) ⊎ (half ≡ fresh) → if_live (in_memory fetched half) ≡ Some put_into → m.activity actor ≡ at.SessionPut line source fresh → HalfHasRoom m actor (ops.Put half rec) → IsAllowedHere fetched (ops.Put half rec)
   shown_put line source fresh half rec put_into either put_live is has =
       let here = has line source fresh half rec is refl in
-      put_allowed fetched keeps half rec here.page (stays_live half here.page put_into (half_held m actor one fit line source fresh half is either) here.live put_live) here.absent (subst (λ (n : ℕ). weight_of (put_page rec here.page).frag ≤ n) dcap_same here.room)
+      put_allowed fetched keeps half rec here.home.page (stays_live half here.home.page put_into (half_held m actor one fit line source fresh half is either) here.home.live put_live) here.home.absent (subst (λ (n : ℕ). weight_of (put_page rec here.home.page).frag ≤ n) dcap_same here.room)
 
   -- a page may be parted that weighs enough
   part_allowed : (id : ℕ) (page : LivePage) (leaves : PartLeavesTo (sight m') (IsChosen page) page) → if_live (in_memory fetched id) ≡ Some page → 6 ≤ weight_of page.frag → IsAllowedHere fetched (ops.Extract id leaves.fresh leaves.path leaves.cuts leaves.free_after)

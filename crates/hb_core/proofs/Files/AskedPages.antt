@@ -13,7 +13,8 @@ use Rattle.hb_latch.specs.declared.modes.Mode.TheVariants.{Shared}
 use Rattle.hb_activity.specs.declared.wanting.Wanted.{Wanted}
 use Rattle.hb_activity.specs.Wanting.{child_of, in_mode, named_child, named_page, walk_next, wanted_page}
 use Rattle.hb_consol.specs.ConsolidatorRows.{names_child}
-use Rattle.hb_core.specs.Asking.{AskedBox, HasAskedBox, around_box, box_at, box_by_leaf, box_of_child, box_of_place, box_of_sibling, first_child_box, this_box}
+use Rattle.hb_core.specs.AskedBoxes.{HasAskedBox}
+use Rattle.hb_core.specs.Asking.{AskedBox, around_box, box_at, box_by_leaf, box_of_child, box_of_place, box_of_sibling, first_child_box, this_box}
 use Rattle.hb_frag.proofs.Facts.Tiles.{leaves_placed}
 use Rattle.hb_frag.specs.Leaves.{Placed, first_at, first_named, leaf_at, leaves, leaves_of, siblings_of, children}
 use Rattle.hb_frag.specs.Trees.{Tree}

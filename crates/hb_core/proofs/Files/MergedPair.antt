@@ -114,16 +114,18 @@ module _ (m : Machine) (actor : ℕ) (may : ℕ → Type 0) (fetched : StoreStat
 
   fits : FitsMerge fetched.meta parent keep gone pair.above pair.kept page
   fits = record {
-    others = (others_kept, others_gone);
-    two = two;
+    pages = record {
+      others = (others_kept, others_gone);
+      two = two;
+      above_made = (live_good fetched keeps.framed parent pair.above pair.above_live).1;
+      kept_made = (live_good fetched keeps.framed keep pair.kept pair.kept_live).1;
+      gone_made = (live_good fetched keeps.framed gone page here).1;
+      kept_level = kept_level;
+      gone_level = gone_level;
+      names_kept = named_leaf keep (leaves pair.above.frag) names_kept;
+      names_gone = named_leaf gone (leaves pair.above.frag) names_gone;
+    };
     some_live = pair.live;
-    above_made = (live_good fetched keeps.framed parent pair.above pair.above_live).1;
-    kept_made = (live_good fetched keeps.framed keep pair.kept pair.kept_live).1;
-    gone_made = (live_good fetched keeps.framed gone page here).1;
-    kept_level = kept_level;
-    gone_level = gone_level;
-    names_kept = named_leaf keep (leaves pair.above.frag) names_kept;
-    names_gone = named_leaf gone (leaves pair.above.frag) names_gone;
     may = subst (λ (level : ℕ). MayMerge pair.above pair.kept gone page (capacity_of level fetched.meta.dcap fetched.meta.icap)) same_level pair.may;
   }
     where

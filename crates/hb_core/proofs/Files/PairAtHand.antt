@@ -9,7 +9,8 @@ use Rattle.hb_activity.specs.declared.activities.Activity.{Activity}
 use Rattle.hb_activity.specs.declared.activities.Activity.TheVariants as at
 use Rattle.hb_activity.specs.Wanting.{wanted_of}
 use Rattle.hb_core.proofs.Table.MergerMoves.{MergesPair, of_page}
-use Rattle.hb_core.specs.Asking.{HasAskedBox, asked_box, box_of_sibling, looked_live, this_box, wanted_by, HasItsBox}
+use Rattle.hb_core.specs.AskedBoxes.{HasAskedBox, HasItsBox}
+use Rattle.hb_core.specs.Asking.{asked_box, box_of_sibling, looked_live, this_box, wanted_by}
 use Rattle.hb_core.specs.Machines.{Machine, live_here, with_disk, sight}
 use Rattle.hb_core.specs.Rows.{IsAtHand}
 use Rattle.hb_frag.specs.Leaves.{first_named, siblings_of}

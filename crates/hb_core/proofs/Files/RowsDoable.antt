@@ -30,8 +30,10 @@ rows_may_be_done parts points law m actor fetched deed op may keeps brings row d
     let now = brought m AnyPage fetched brings (keeps_pages m keeps.meta_within_limits keeps.pages_of_file) in
     let tells = subst (Tells fetched) does (tells_row m actor AnyPage fetched brings (inr (may, keeps.latches_fit)) (wanted_by m actor) deed refl (keeps.lines_fit.in_hand actor) row) in
     record {
-      allowed = allowed;
+      doable = record {
+        points = op_has fetched.meta.k op (fits_op points parts fetched now.limits now.high now.framed op tells allowed);
+        allowed = allowed;
+        boxes = boxes_told fetched op tells;
+      };
       licensed = tells;
-      attributes = op_has fetched.meta.k op (fits_op points parts fetched now.limits now.high now.framed op tells allowed);
-      boxes = boxes_told fetched op tells;
     }

@@ -1,5 +1,5 @@
 -- A machine that has taken no step keeps what every machine keeps; and there is one over each sound file.
-use Rattle.std.proofs.Common.{◌≡◌, ◌≢◌, ◌⊎◌, inl, inr, ℕ, ◌<◌, ◌≤◌, ◌==◌, cond, List, [], length, All, AllPairs, Option, Some, None, is_some, IfSome, IsTrue, refl, sym, ap, ◌∙◌, subst, arith}
+use Rattle.std.proofs.Common.{◌≡◌, ◌≢◌, ◌⊎◌, inl, inr, ℕ, ◌≤◌, ◌==◌, cond, List, [], length, All, AllPairs, Option, Some, None, is_some, IfSome, IsTrue, refl, sym, ap, ◌∙◌, subst, arith}
 use Rattle.std.specs.Prelude.{IsSomeAnd}
 use Rattle.std.specs.FinMap as map
 use Rattle.std.specs.FinSet as set
@@ -22,12 +22,12 @@ use Rattle.hb_core.specs.KeptFits.{AttributesFit, IsBoxOf, JobFits, LineFits, St
 use Rattle.hb_core.specs.KeptLines.{HasLineBody, MetaWithinLimits}
 use Rattle.hb_core.specs.KeptMachine.{MachineKeeps}
 use Rattle.hb_core.specs.KeptMerges.{NamesKnown, merging_at}
-use Rattle.hb_core.specs.KeptOrder.{IsNoLater, FollowMarks, HasLegalOrder, HasPendingPrefix, StandsInOrder, StandsOutside}
+use Rattle.hb_core.specs.KeptOrder.{FollowMarks, HasLegalOrder, HasPendingPrefix, IsSettledIn, StandsOutside, StandsSomewhere}
 use Rattle.hb_core.specs.KeptPlaces.{AnswersAreSingle, OrderIsShort, RepliesStand}
 use Rattle.hb_core.specs.KeptSearches.{SearchesAreExact}
 use Rattle.hb_search.specs.Searching.{StaysGathering}
 use Rattle.hb_core.specs.KeptSequence.{IsInSequence, LinesInSequence, awaited_number}
-use Rattle.hb_core.specs.Machines.{Machine, settled_count}
+use Rattle.hb_core.specs.Machines.{Machine}
 use Rattle.hb_core.specs.Performing.{latches_held, mode_among}
 use Rattle.hb_core.specs.SteppingLaws.{BeginningExists, BeginningKeeps, BeginningKeepsAll, IsBegun}
 use Rattle.hb_latch.specs.Modes.{goes_beside}
@@ -40,7 +40,7 @@ use Rattle.hb_point.specs.SessionRows.{is_answered, next_line}
 use Rattle.hb_pool.specs.Frames.{Use}
 use Rattle.hb_set.specs.Order.{Entry, IsLegalOrder, result_of}
 use Rattle.hb_store.specs.States.{IsStanding, new_state}
-use Rattle.hb_wal.specs.Log.{LogState, Waiting}
+use Rattle.hb_wal.specs.Log.{IsMarkedTo, IsNoLater, LogState, Waiting}
 use Rattle.hb_core.proofs.Machines.FramesKept.{frames_begun}
 use Rattle.hb_core.proofs.Table.DeedKinds.{idle_kind}
 use Rattle.hb_core.proofs.Orders.ShortOrder.{AreOfTwo}
@@ -165,8 +165,7 @@ module _ (m : Machine) (begun : IsBegun m) where
   replies_begin : RepliesStand m
   replies_begin = record {
     awaits = λ actor number place reply is. absurd (of_each _ (await_or_not number reply place) actor is);
-    inside = λ actor number place reply is. absurd (of_each _ (await_or_not number reply place) actor is);
-    answers = all_answers (λ (a : Answered). StandsOutside a.reply ⊎ ((place : ℕ) × StandsInOrder m a.line a.reply place));
+    answers = all_answers (StandsSomewhere m.order);
   }
 
   answers_begin : AnswersAreSingle m
@@ -208,9 +207,6 @@ module _ (m : Machine) (begun : IsBegun m) where
   no_lock : (actor : ℕ) (lock : BoxLock) → lock_of (m.activity actor) ≡ Some lock → ⊥
   no_lock actor lock is = of_each (λ a. lock_of a ≡ Some lock → ⊥) (record { session = λ some. cc; poster = λ some. cc; consolidator = λ some. cc; flusher = λ some. cc }) actor is
 
-  groups_rise : AllPairs IsNoLater m.store.log.groups
-  groups_rise = subst (λ (l : List Waiting). AllPairs IsNoLater l) (sym no_group) (pairs_none IsNoLater)
-
   pub begins : MachineKeeps m
   begins = record {
     meta_within_limits = meta_begins;
@@ -220,6 +216,7 @@ module _ (m : Machine) (begun : IsBegun m) where
     lines_in_sequence = sequence_begins;
     order_short = order_begins;
     replies_stand = replies_begin;
+    awaits_inside = λ actor number place reply is. absurd (of_each _ (await_or_not number reply place) actor is);
     answers_single = answers_begin;
     pages_of_file = begun.store.pages;
     frames_fit = frames_begun m begun;
@@ -232,7 +229,7 @@ module _ (m : Machine) (begun : IsBegun m) where
     walk_in_space = walks_begin;
     workers_stand = workers_begin;
     room_known = room_begins;
-    marks_rise = record { rising = groups_rise; inside = all_groups (λ (g : Waiting). g.mark ≤ length m.order) };
+    marks_rise = record { rising = subst (λ (l : List Waiting). AllPairs IsNoLater l) (sym no_group) (pairs_none IsNoLater); inside = all_groups (IsMarkedTo (length m.order)) };
     runs = λ runs. begun.store.runs;
   }
 
@@ -242,8 +239,6 @@ module _ (m : Machine) (begun : IsBegun m) where
   order_legal_then s = record {
     legal = subst (λ (l : List Entry). IsLegalOrder (contents_of s) l) (sym begun.no_order) (record { replies = tt; sessions = tt });
     result = ap (result_of (contents_of s)) begun.no_order;
-    awaits = replies_begin.awaits;
-    answers = replies_begin.answers;
   }
 
   exact_then : (s : FileState) → SearchesAreExact m (record { durable = s; later = [] })
@@ -252,8 +247,7 @@ module _ (m : Machine) (begun : IsBegun m) where
   pending_then : (s : FileState) → HasPendingPrefix (contents_of s) m (record { durable = s; later = [] })
   pending_then s = record {
     marks = subst (λ (l : List Waiting). FollowMarks (contents_of s) m.order s l []) (sym no_group) tt;
-    rising = groups_rise;
-    settled = all_answers (λ (a : Answered). (place : ℕ) → StandsInOrder m a.line a.reply place → place < settled_count m);
+    settled = all_answers (IsSettledIn m);
   }
 
 pub beginning_keeps : BeginningKeeps

@@ -1,6 +1,6 @@
 -- A machine of which a caller changed no more than the jobs that wait, the pages in memory that nobody holds, and the stop, keeps what it
 -- kept.
-use Rattle.std.proofs.Common.{◌≡◌, ◌⊎◌, inl, inr, ℕ, ◌<◌, ◌≤◌, ◌^◌, List, [], ◌∷◌, length, All, Option, Some, None, IfSome, IsSome, refl, sym, ap, ◌∙◌, subst, arith}
+use Rattle.std.proofs.Common.{◌≡◌, inl, inr, ℕ, ◌<◌, ◌≤◌, ◌^◌, List, [], ◌∷◌, length, All, Option, Some, None, IfSome, IsSome, refl, sym, ap, ◌∙◌, subst, arith}
 use Rattle.std.proofs.lemmas.List.Elements.{All-cons, All-nil, All-weaker}
 use Rattle.hb_activity.specs.declared.activities.Activity.TheVariants as at
 use Rattle.hb_activity.specs.declared.jobs.Job.{Job}
@@ -17,8 +17,6 @@ use Rattle.hb_ops.proofs.Facts.PageNumberLaws.{live_so}
 use Rattle.hb_ops.specs.Files.{if_live}
 use Rattle.hb_pool.specs.Frames.{Use}
 use Rattle.hb_set.specs.Machine.{RecordSet}
-use Rattle.hb_set.specs.declared.commands.Reply.{Reply}
-use Rattle.hb_set.specs.declared.scripts.Answered.{Answered}
 use Rattle.hb_space.specs.Actors.{IsActor}
 use Rattle.hb_store.specs.Calls.{KeepsAllButPages}
 use Rattle.hb_store.specs.States.{StoreState, in_memory}
@@ -40,7 +38,7 @@ use Rattle.hb_core.specs.Keeps.{HasSoundFile, HoldsPagesOfFile, KnowsRoom, Latch
 use Rattle.hb_core.specs.KeptFits.{AttributesFit, IsBoxOf, JobFits, LineFits, RunsWithStore, WorkersStand, boxes_left, walking_job}
 use Rattle.hb_core.specs.KeptLines.{LinesFit, LogInPlace, MetaWithinLimits}
 use Rattle.hb_core.specs.KeptMachine.{CoreKeeps, MachineKeeps}
-use Rattle.hb_core.specs.KeptOrder.{FollowMarks, HasLegalOrder, HasPendingPrefix, StandsInOrder, StandsOutside}
+use Rattle.hb_core.specs.KeptOrder.{FollowMarks, HasLegalOrder, HasPendingPrefix, IsSettledIn}
 use Rattle.hb_core.specs.KeptPlaces.{MarksRise, RepliesStand}
 use Rattle.hb_core.specs.KeptSequence.{IsInSequence, LinesInSequence}
 use Rattle.hb_core.specs.Machines.{Files, Machine, live_here, settled_count, stopped_for, with_disk, with_uses}
@@ -55,16 +53,6 @@ HeldStay m st = (actor id : ℕ) (mode : Mode) → mode_at m.latches actor id �
 module _ (m : Machine) (jobs : List Job) (st : StoreState) (uses : List Use) (stop : Option StopWhy) where
   abbrev pub beside : Machine
   beside = record m { jobs = jobs; store = st; uses = uses; stop = stop }
-
-  stands_still : (number place : ℕ) (reply : Reply) → StandsInOrder m number reply place → StandsInOrder beside number reply place
-  stands_still number place reply stands = record { entry = stands.entry; there = stands.there; number_is = stands.number_is; reply_is = stands.reply_is }
-
-  stood_before : (number place : ℕ) (reply : Reply) → StandsInOrder beside number reply place → StandsInOrder m number reply place
-  stood_before number place reply stands = record { entry = stands.entry; there = stands.there; number_is = stands.number_is; reply_is = stands.reply_is }
-
-  answer_stands : (a : Answered) → StandsOutside a.reply ⊎ ((place : ℕ) × StandsInOrder m a.line a.reply place) → StandsOutside a.reply ⊎ ((place : ℕ) × StandsInOrder beside a.line a.reply place)
-  answer_stands a (inl outside) = inl outside
-  answer_stands a (inr (place, stands)) = inr (place, stands_still a.line place a.reply stands)
 
   module _ (keeps : MachineKeeps m) (rest : KeepsAllButPages m.store st) (held : HeldStay m st) where
     -- ---- what an actor holds
@@ -126,11 +114,7 @@ module _ (m : Machine) (jobs : List Job) (st : StoreState) (uses : List Use) (st
     }
 
     replies : RepliesStand beside
-    replies = record {
-      awaits = λ actor number place reply is. stands_still number place reply (keeps.replies_stand.awaits actor number place reply is);
-      inside = keeps.replies_stand.inside;
-      answers = All-weaker (λ (a : Answered). StandsOutside a.reply ⊎ ((place : ℕ) × StandsInOrder m a.line a.reply place)) (λ (a : Answered). StandsOutside a.reply ⊎ ((place : ℕ) × StandsInOrder beside a.line a.reply place)) answer_stands m.answered keeps.replies_stand.answers;
-    }
+    replies = record { awaits = keeps.replies_stand.awaits; answers = keeps.replies_stand.answers }
 
     latches : LatchesFit beside
     latches = record {
@@ -205,6 +189,7 @@ module _ (m : Machine) (jobs : List Job) (st : StoreState) (uses : List Use) (st
       lines_in_sequence = in_sequence;
       order_short = record { once = keeps.order_short.once; few = keeps.order_short.few };
       replies_stand = replies;
+      awaits_inside = keeps.awaits_inside;
       answers_single = record { once = keeps.answers_single.once; outside = keeps.answers_single.outside };
       pages_of_file = pages;
       frames_fit = frames;
@@ -228,8 +213,6 @@ module _ (m : Machine) (jobs : List Job) (st : StoreState) (uses : List Use) (st
       legal = record {
         legal = all.order_legal.legal;
         result = all.order_legal.result;
-        awaits = λ actor number place reply is. stands_still number place reply (all.order_legal.awaits actor number place reply is);
-        answers = All-weaker (λ (a : Answered). StandsOutside a.reply ⊎ ((place : ℕ) × StandsInOrder m a.line a.reply place)) (λ (a : Answered). StandsOutside a.reply ⊎ ((place : ℕ) × StandsInOrder beside a.line a.reply place)) answer_stands m.answered all.order_legal.answers;
       }
 
       same_settled : settled_count m ≡ settled_count beside
@@ -238,9 +221,8 @@ module _ (m : Machine) (jobs : List Job) (st : StoreState) (uses : List Use) (st
       prefix : HasPendingPrefix n beside files
       prefix = record {
         marks = subst (λ (groups : List Waiting). FollowMarks n m.order files.durable groups files.later) same_groups all.pending_prefix.marks;
-        rising = marks.rising;
-        settled = All-weaker (λ (a : Answered). (place : ℕ) → StandsInOrder m a.line a.reply place → place < settled_count m) (λ (a : Answered). (place : ℕ) → StandsInOrder beside a.line a.reply place → place < settled_count beside)
-            (λ a settled place stands. subst (λ (k : ℕ). place < k) same_settled (settled place (stood_before a.line place a.reply stands))) m.answered all.pending_prefix.settled;
+        settled = All-weaker (IsSettledIn m) (IsSettledIn beside)
+            (λ a settled place stands. subst (λ (k : ℕ). place < k) same_settled (settled place stands)) m.answered all.pending_prefix.settled;
       }
 
       pub beside_keeps_all : MachineKeeps beside → HasSoundFile beside files → CoreKeeps n beside files

@@ -8,7 +8,8 @@ use Rattle.hb_core.proofs.Machines.LogKept.{log_stays_in_place}
 use Rattle.hb_core.proofs.Machines.LocksKept.{box_locks_stay_fit}
 use Rattle.hb_core.proofs.Orders.LinesFit.{lines_stay_fit}
 use Rattle.hb_core.proofs.Orders.MarksKept.{marks_rise_still}
-use Rattle.hb_core.proofs.Orders.RepliesKept.{replies_stand}
+use Rattle.hb_core.proofs.Orders.OrderPlaces.{replies_kept}
+use Rattle.hb_core.proofs.Orders.RepliesKept.{awaits_none_outside}
 use Rattle.hb_core.proofs.Machines.RunsKept.{runs_stay}
 use Rattle.hb_core.proofs.Orders.ShortOrder.{order_stays_short}
 use Rattle.hb_core.proofs.Orders.SingleAnswers.{answers_stay_single}
@@ -39,7 +40,8 @@ machine_stays_kept laws m actor outcome new may keeps step = record {
   attributes_fit = attributes_fit_still m actor outcome new may keeps step;
   lines_in_sequence = sequence_stays m actor outcome new keeps.lines_in_sequence step;
   order_short = order_stays_short m actor outcome new may keeps step;
-  replies_stand = replies_stand m actor outcome new may keeps step;
+  replies_stand = replies_kept m actor outcome new keeps.replies_stand step;
+  awaits_inside = awaits_none_outside m actor outcome new may keeps step;
   answers_single = answers_stay_single m actor outcome new may keeps step;
   pages_of_file = laws.pages m actor outcome new may keeps.latches_fit keeps.lines_fit keeps.meta_within_limits keeps.pages_of_file step;
   frames_fit = frames_kept m actor outcome new may keeps step;

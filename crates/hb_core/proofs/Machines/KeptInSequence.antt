@@ -37,7 +37,7 @@ module _ (laws : StepLaws) (n : RecordSet) where
           sound_file = after.2;
           search_exact = laws.searches m files after.0 actor outcome new may keeps.told keeps.kept keeps.sound_file keeps.search_exact step after.1;
           order_legal = legal;
-          pending_prefix = prefix_stays_pending n m files actor outcome new after.0 keeps.told after.1 keeps.sound_file keeps.order_legal keeps.pending_prefix step legal.legal;
+          pending_prefix = prefix_stays_pending n m files actor outcome new after.0 keeps.told after.1 keeps.sound_file keeps.order_legal keeps.kept.replies_stand keeps.pending_prefix step legal.legal;
         },
       )
 
@@ -45,7 +45,7 @@ module _ (laws : StepLaws) (n : RecordSet) where
   nothing_done m files new keeps is =
       let now : CoreKeeps n new files = subst (λ (x : Machine). CoreKeeps n x files) (sym is) keeps in
       let same = ap settled_count is in
-      record { keeps = now; prefixes = files_have_prefixes n new files now.sound_file now.order_legal now.pending_prefix; settled = omega (arith, same); undamaged = λ well. subst IsUndamaged (sym is) well }
+      record { keeps = now; prefixes = files_have_prefixes n new files now.sound_file now.order_legal now.kept.replies_stand now.kept.marks_rise now.pending_prefix; settled = omega (arith, same); undamaged = λ well. subst IsUndamaged (sym is) well }
 
   one_more : (m : Machine) (files : Files) (actor : ℕ) (outcome : Outcome) (next new : Machine) (files' : Files) → IsActor actor → CoreKeeps n m files → StepsTo m actor outcome next → HasKeptAll n next new files' → HasKeptAll n m new files'
   one_more m files actor outcome next new files' may keeps step kept =

@@ -100,7 +100,7 @@ known_apart m knows actor line source fresh is same =
     one.not_both first (subst (λ (page : LivePage). DirectlyHolds page rec.key) alike first)
   where
     holds : (p body : List ℕ) (half : ℕ) (page : LivePage) → HasRoomFor m half p body → live_here m.store half ≡ Some page → DirectlyHolds page p
-    holds p body half page has live = subst (λ (page : LivePage). DirectlyHolds page p) (same_Some has.page page (sym has.live ∙ live)) has.direct
+    holds p body half page has live = subst (λ (page : LivePage). DirectlyHolds page p) (same_Some has.home.page page (sym has.home.live ∙ live)) has.home.direct
 
 -- and where a page was just split
 module _ (m : Machine) (actor : ℕ) (may : ℕ → Type 0) (fetched : StoreState) (is_actor : IsActor actor) (fit : LatchesFit m) (inside : HoldsPagesOfFile m) (brings : Brings m may fetched) (deed : Deed) where

@@ -23,7 +23,10 @@ last_among durable (next ∷ later) = let among = last_among next later in (suc 
 module _ (n : RecordSet) (m : Machine) (bytes : List ℕ) where
   -- the bytes open to one of the files
   opens_to : (s : FileState) → OpensTo bytes s → IsSound s → ((p : List ℕ) → IsPointOf s p → HasOnePage s p) → IsAfterLonger n m s → ImageHasPrefix n m bytes
-  opens_to s opens sound pages (count, enough, after) = record { s = s; opens = opens; sound = sound; pages = pages; count = count; enough = enough; after = after }
+  opens_to s opens sound pages (count, enough, after) = record {
+    image = record { s = s; opens = opens; sound = sound; pages = pages; count = count; enough = enough; inside = after.inside; contents = after.contents };
+    answered = after.answered;
+  }
 
   -- the last one is after a prefix, as they all are
   last_after : (durable : FileState) (later : List FileState) → IsAfterLonger n m durable → All (IsAfterLonger n m) later → IsAfterLonger n m (last_of durable later)
@@ -38,6 +41,6 @@ module _ (n : RecordSet) (m : Machine) (bytes : List ℕ) where
 
 pub images_have_prefixes : PointsHaveOnePage → ImagesHavePrefixes
 images_have_prefixes one_page n m files bytes keeps opens =
-    let prefixes = files_have_prefixes n m files keeps.sound_file keeps.order_legal keeps.pending_prefix in
+    let prefixes = files_have_prefixes n m files keeps.sound_file keeps.order_legal keeps.kept.replies_stand keeps.kept.marks_rise keeps.pending_prefix in
     opens_to_either n m bytes files.durable files.later (λ s among p point. one_page m files s p keeps.sound_file among point) keeps.sound_file.durable keeps.sound_file.later
     (settled_count m, omega arith, prefixes.durable) prefixes.later opens

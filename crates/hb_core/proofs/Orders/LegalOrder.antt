@@ -10,7 +10,6 @@ use Rattle.hb_activity.specs.declared.activities.Activity.{Activity}
 use Rattle.hb_activity.specs.declared.activities.Activity.TheVariants as at
 use Rattle.hb_activity.specs.Classes.{line_in_hand}
 use Rattle.hb_core.proofs.Facts.NextLines.{next_is, same_line}
-use Rattle.hb_core.proofs.Orders.OrderPlaces.{replies_kept}
 use Rattle.hb_core.specs.ContentsLaws.{ContentsFollowOrder, ContentsStep, contents_now}
 use Rattle.hb_core.specs.KeptOrder.{HasLegalOrder}
 use Rattle.hb_core.specs.KeptSequence.{IsInSequence, LinesInSequence, awaited_number}
@@ -107,5 +106,4 @@ pub order_stays_legal : ContentsFollowOrder → SearchesAreRight → OrderStaysL
 order_stays_legal law searches n m files after actor outcome new told kept has exact legal step is =
     let right : IsRight m new files = λ entry joins wants. searches m files actor outcome new entry told kept has exact step joins wants in
     let both = still_legal n m files after actor new kept.lines_in_sequence legal right (law m files after actor outcome new told kept.lines_fit kept.pages_of_file has step is) in
-    let replies = replies_kept m actor outcome new (record { awaits = legal.awaits; answers = legal.answers }) step in
-    record { legal = both.0; result = both.1; awaits = replies.awaits; answers = replies.answers }
+    record { legal = both.0; result = both.1 }

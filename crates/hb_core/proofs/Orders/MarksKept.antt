@@ -1,12 +1,11 @@
 -- After a step the marks of the groups that wait don't fall, and none is behind the order's end.
-use Rattle.std.proofs.Common.{◌≡◌, inl, inr, ℕ, ◌≤◌, List, [], ◌∷◌, ◌++◌, length, All, AllPairs, Option, Some, None, refl, sym, ap, ◌∙◌, subst, arith}
+use Rattle.std.proofs.Common.{◌≡◌, inl, inr, ℕ, List, [], ◌∷◌, ◌++◌, length, All, AllPairs, Option, Some, None, refl, sym, ap, ◌∙◌, subst, arith}
 use Rattle.std.proofs.lemmas.List.{length-append}
 use Rattle.std.proofs.lemmas.List.Elements.{All-nil, All-push, All-weaker}
 use Rattle.hb_ops.specs.declared.operations.Op.{Op}
 use Rattle.hb_core.specs.declared.outcomes.Outcome.{Outcome}
 use Rattle.hb_core.specs.declared.outcomes.Outcome.TheVariants as outcomes
 use Rattle.hb_activity.specs.Deeds.{Deed}
-use Rattle.hb_core.specs.KeptOrder.{IsNoLater}
 use Rattle.hb_core.proofs.Facts.StepKinds.{FlushesMore, each_kind, ready_kind}
 use Rattle.hb_core.specs.Forcing.{FailsToWrite, ForcesAll, StaysSo}
 use Rattle.hb_core.specs.KeptMachine.{MachineKeeps}
@@ -19,25 +18,22 @@ use Rattle.hb_log_codec.specs.Groups.{group_bytes}
 use Rattle.hb_set.specs.Order.{Entry}
 use Rattle.hb_store.specs.Making.{group_here}
 use Rattle.hb_store.specs.States.{StoreState}
-use Rattle.hb_wal.specs.Log.{LogState, Waiting}
+use Rattle.hb_wal.specs.Log.{IsMarkedTo, IsNoLater, LogState, Waiting}
 use Rattle.hb_lemmas.proofs.Pairs.{pairs_none}
 use Rattle.std.proofs.lemmas.List.Quantifiers.{all_pairs_push}
 use Rattle.std.specs.Option.{option_to_list}
 
-abbrev pub IsInside : ℕ → Waiting → Type 0
-IsInside most g = g.mark ≤ most
-
 module _ (m : Machine) (actor : ℕ) (outcome : Outcome) (new : Machine) (marks : MarksRise m) where
   -- no mark is behind the end of a longer order
-  inside_longer : (more : List Entry) → All (IsInside (length (m.order ++ more))) m.store.log.groups
+  inside_longer : (more : List Entry) → All (IsMarkedTo (length (m.order ++ more))) m.store.log.groups
   inside_longer more =
       let long = length-append {A = Entry} m.order more in
-      All-weaker (IsInside (length m.order)) (IsInside (length (m.order ++ more))) (λ g low. omega (arith, low, long)) m.store.log.groups marks.inside
+      All-weaker (IsMarkedTo (length m.order)) (IsMarkedTo (length (m.order ++ more))) (λ g low. omega (arith, low, long)) m.store.log.groups marks.inside
 
-  rise_as : (order : List Entry) (groups : List Waiting) → new.order ≡ order → new.store.log.groups ≡ groups → AllPairs IsNoLater groups → All (IsInside (length order)) groups → MarksRise new
+  rise_as : (order : List Entry) (groups : List Waiting) → new.order ≡ order → new.store.log.groups ≡ groups → AllPairs IsNoLater groups → All (IsMarkedTo (length order)) groups → MarksRise new
   rise_as order groups order_is groups_are rising inside = record {
     rising = subst (λ (gs : List Waiting). AllPairs IsNoLater gs) (sym groups_are) rising;
-    inside = subst (λ (gs : List Waiting). All (IsInside (length new.order)) gs) (sym groups_are) (subst (λ (es : List Entry). All (IsInside (length es)) groups) (sym order_is) inside);
+    inside = subst (λ (gs : List Waiting). All (IsMarkedTo (length new.order)) gs) (sym groups_are) (subst (λ (es : List Entry). All (IsMarkedTo (length es)) groups) (sym order_is) inside);
   }
 
   -- the order grows
@@ -52,8 +48,8 @@ module _ (m : Machine) (actor : ℕ) (outcome : Outcome) (new : Machine) (marks 
   joined more group mark order_is groups_are =
       let long = length-append {A = Entry} m.order more in
       rise_as (m.order ++ more) (m.store.log.groups ++ group ∷ []) order_is groups_are
-      (all_pairs_push IsNoLater m.store.log.groups group marks.rising (subst (λ (k : ℕ). All (IsInside k) m.store.log.groups) (sym mark) marks.inside))
-      (All-push (IsInside (length (m.order ++ more))) m.store.log.groups group (inside_longer more) (omega (arith, mark, long)))
+      (all_pairs_push IsNoLater m.store.log.groups group marks.rising (subst (λ (k : ℕ). All (IsMarkedTo k) m.store.log.groups) (sym mark) marks.inside))
+      (All-push (IsMarkedTo (length (m.order ++ more))) m.store.log.groups group (inside_longer more) (omega (arith, mark, long)))
 
   stays : (said : Outcome) → StaysSo m said outcome new → MarksRise new
   stays said so = same (ap (λ (n : Machine). n.order) so.1) (ap (λ (n : Machine). n.store.log.groups) so.1)
@@ -63,7 +59,7 @@ module _ (m : Machine) (actor : ℕ) (outcome : Outcome) (new : Machine) (marks 
 
   forces : (said : Outcome) → ForcesAll m said outcome new → MarksRise new
   forces said (inl (says, is)) =
-      rise_as m.order [] (ap (λ (n : Machine). n.order) is) (ap (λ (n : Machine). n.store.log.groups) is) (pairs_none IsNoLater) (All-nil (IsInside (length m.order)))
+      rise_as m.order [] (ap (λ (n : Machine). n.order) is) (ap (λ (n : Machine). n.store.log.groups) is) (pairs_none IsNoLater) (All-nil (IsMarkedTo (length m.order)))
   forces said (inr badly) = fails badly.1
 
   more_flushed : FlushesMore m outcome new → MarksRise new

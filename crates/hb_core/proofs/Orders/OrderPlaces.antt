@@ -1,5 +1,5 @@
 -- After a step each line that awaits its place, and each answered line of the order, stands there with its reply.
-use Rattle.std.proofs.Common.{◌≡◌, ◌⊎◌, inl, inr, ℕ, ◌==◌, Bool, cond, List, [], ◌∷◌, ◌++◌, length, get_or, All, Option, refl, sym, ap, ◌∙◌, subst, append-nil}
+use Rattle.std.proofs.Common.{◌≡◌, inl, inr, ℕ, ◌==◌, Bool, cond, List, [], ◌∷◌, ◌++◌, length, get_or, All, Option, refl, sym, ap, ◌∙◌, subst, append-nil}
 use Rattle.std.specs.List.{slice_get}
 use Rattle.std.proofs.lemmas.Bool.{cases_Bool}
 use Rattle.std.proofs.lemmas.List.Elements.{All-append, All-cons, All-nil}
@@ -15,7 +15,8 @@ use Rattle.hb_core.proofs.Table.LineFates.{LineFate, fate_given_up, fate_row, id
 use Rattle.hb_core.proofs.Table.MergerMoves.{Waits}
 use Rattle.hb_core.proofs.Facts.StepKinds.{each_step, ready_kind}
 use Rattle.hb_core.proofs.Facts.Ways.{KeepsAllButDisk, forces_so, meets_so, stays_so, more_so}
-use Rattle.hb_core.specs.KeptOrder.{StandsInOrder, StandsOutside}
+use Rattle.hb_core.specs.KeptOrder.{StandsInOrder, StandsSomewhere}
+use Rattle.hb_core.specs.KeptPlaces.{RepliesStand}
 use Rattle.hb_core.specs.Machines.{Machine}
 use Rattle.hb_core.specs.Performing.{Performs, given_by, outcome_of}
 use Rattle.hb_core.specs.Steps.{StepsTo, Works}
@@ -25,52 +26,44 @@ use Rattle.hb_lemmas.proofs.Lists.{get-push_last}
 use Rattle.hb_core.proofs.TwoSteps.SinglePlaces.{stands_longer}
 use Rattle.std.specs.Option.{option_to_list}
 
-abbrev pub StandsSomewhere : Machine → Answered → Type 0
-StandsSomewhere m a = StandsOutside a.reply ⊎ ((place : ℕ) × StandsInOrder m a.line a.reply place)
-
--- what is kept of the replies: those that are awaited, and those that were given
-pub record KeepsReplies (m : Machine) : Type 0 where
-  pub awaits : (actor number place : ℕ) (reply : Reply) → m.activity actor ≡ at.SessionAwait number reply place → StandsInOrder m number reply place
-  pub answers : All (StandsSomewhere m) m.answered
-
-module _ (m : Machine) (actor : ℕ) (outcome : Outcome) (new : Machine) (keeps : KeepsReplies m) where
-  somewhere_more : (more : List Entry) → new.order ≡ m.order ++ more → (a : Answered) → StandsSomewhere m a → StandsSomewhere new a
+module _ (m : Machine) (actor : ℕ) (outcome : Outcome) (new : Machine) (keeps : RepliesStand m) where
+  somewhere_more : (more : List Entry) → new.order ≡ m.order ++ more → (a : Answered) → StandsSomewhere m.order a → StandsSomewhere new.order a
   somewhere_more more is a (inl outside) = inl outside
-  somewhere_more more is a (inr (place, stands)) = inr (place, stands_longer m new more a.line place a.reply is stands)
+  somewhere_more more is a (inr (place, stands)) = inr (place, stands_longer m.order new.order more a.line place a.reply is stands)
 
-  stays : KeepsAllButDisk m new → KeepsReplies new
+  stays : KeepsAllButDisk m new → RepliesStand new
   stays all =
       let order : new.order ≡ m.order ++ [] = all.order ∙ sym (append-nil m.order) in
       record {
-        awaits = λ other number place reply is. stands_longer m new [] number place reply order (keeps.awaits other number place reply (sym (ap (λ (f : ℕ → Activity). f other) all.activity) ∙ is));
-        answers = subst (λ (l : List Answered). All (StandsSomewhere new) l) (sym all.answered) (λ i d lt. somewhere_more [] order (get_or m.answered i d) (keeps.answers i d lt));
+        awaits = λ other number place reply is. stands_longer m.order new.order [] number place reply order (keeps.awaits other number place reply (sym (ap (λ (f : ℕ → Activity). f other) all.activity) ∙ is));
+        answers = subst (λ (l : List Answered). All (StandsSomewhere new.order) l) (sym all.answered) (λ i d lt. somewhere_more [] order (get_or m.answered i d) (keeps.answers i d lt));
       }
 
-  done : (fetched : StoreState) (deed : Deed) → Performs m fetched actor deed outcome new → All (StandsSomewhere new) (given_by (outcome_of deed.says) m.clock)
-      → ((number place : ℕ) (reply : Reply) → deed.next ≡ at.SessionAwait number reply place → StandsInOrder new number reply place) → KeepsReplies new
+  done : (fetched : StoreState) (deed : Deed) → Performs m fetched actor deed outcome new → All (StandsSomewhere new.order) (given_by (outcome_of deed.says) m.clock)
+      → ((number place : ℕ) (reply : Reply) → deed.next ≡ at.SessionAwait number reply place → StandsInOrder new.order number reply place) → RepliesStand new
   done fetched deed performs given own = record {
     awaits = λ other number place reply is. elim (cases_Bool (other == actor)) [
       | inl here ↦ own number place reply (sym (performs.activity other ∙ ap (λ (b : Bool). cond b deed.next (m.activity other)) here) ∙ is)
-      | inr off ↦ stands_longer m new (option_to_list deed.joins) number place reply performs.order (keeps.awaits other number place reply (sym (performs.activity other ∙ ap (λ (b : Bool). cond b deed.next (m.activity other)) off) ∙ is))
+      | inr off ↦ stands_longer m.order new.order (option_to_list deed.joins) number place reply performs.order (keeps.awaits other number place reply (sym (performs.activity other ∙ ap (λ (b : Bool). cond b deed.next (m.activity other)) off) ∙ is))
     ];
-    answers = subst (λ (l : List Answered). All (StandsSomewhere new) l) (sym performs.answered)
-        (All-append (StandsSomewhere new) m.answered (given_by (outcome_of deed.says) m.clock) (λ i d lt. somewhere_more (option_to_list deed.joins) performs.order (get_or m.answered i d) (keeps.answers i d lt)) given);
+    answers = subst (λ (l : List Answered). All (StandsSomewhere new.order) l) (sym performs.answered)
+        (All-append (StandsSomewhere new.order) m.answered (given_by (outcome_of deed.says) m.clock) (λ i d lt. somewhere_more (option_to_list deed.joins) performs.order (get_or m.answered i d) (keeps.answers i d lt)) given);
   }
 
-  none_given : (deed : Deed) → given_by (outcome_of deed.says) m.clock ≡ [] → All (StandsSomewhere new) (given_by (outcome_of deed.says) m.clock)
-  none_given deed none = subst (λ (l : List Answered). All (StandsSomewhere new) l) (sym none) (All-nil (StandsSomewhere new))
+  none_given : (deed : Deed) → given_by (outcome_of deed.says) m.clock ≡ [] → All (StandsSomewhere new.order) (given_by (outcome_of deed.says) m.clock)
+  none_given deed none = subst (λ (l : List Answered). All (StandsSomewhere new.order) l) (sym none) (All-nil (StandsSomewhere new.order))
 
-  one_given : (deed : Deed) (number : ℕ) (reply : Reply) → deed.says ≡ Answers number reply → StandsSomewhere new (record { line = number; reply = reply; at = m.clock }) → All (StandsSomewhere new) (given_by (outcome_of deed.says) m.clock)
+  one_given : (deed : Deed) (number : ℕ) (reply : Reply) → deed.says ≡ Answers number reply → StandsSomewhere new.order (record { line = number; reply = reply; at = m.clock }) → All (StandsSomewhere new.order) (given_by (outcome_of deed.says) m.clock)
   one_given deed number reply says stands =
-      subst (λ (o : Says). All (StandsSomewhere new) (given_by (outcome_of o) m.clock)) (sym says) (All-cons (StandsSomewhere new) (record { line = number; reply = reply; at = m.clock }) [] stands (All-nil (StandsSomewhere new)))
+      subst (λ (o : Says). All (StandsSomewhere new.order) (given_by (outcome_of o) m.clock)) (sym says) (All-cons (StandsSomewhere new.order) (record { line = number; reply = reply; at = m.clock }) [] stands (All-nil (StandsSomewhere new.order)))
 
-  never_waits : (deed : Deed) → (Waits deed.next → ⊥) → (number place : ℕ) (reply : Reply) → deed.next ≡ at.SessionAwait number reply place → StandsInOrder new number reply place
+  never_waits : (deed : Deed) → (Waits deed.next → ⊥) → (number place : ℕ) (reply : Reply) → deed.next ≡ at.SessionAwait number reply place → StandsInOrder new.order number reply place
   never_waits deed none number place reply is = absurd (none (subst Waits (sym is) tt))
 
-  quiet : (fetched : StoreState) (deed : Deed) → Performs m fetched actor deed outcome new → given_by (outcome_of deed.says) m.clock ≡ [] → (Waits deed.next → ⊥) → KeepsReplies new
+  quiet : (fetched : StoreState) (deed : Deed) → Performs m fetched actor deed outcome new → given_by (outcome_of deed.says) m.clock ≡ [] → (Waits deed.next → ⊥) → RepliesStand new
   quiet fetched deed performs says waits = done fetched deed performs (none_given deed says) (never_waits deed waits)
 
-  answered : (fetched : StoreState) (deed : Deed) (number : ℕ) (reply : Reply) → Performs m fetched actor deed outcome new → deed.says ≡ Answers number reply → deed.next ≡ at.SessionIdle → StandsSomewhere new (record { line = number; reply = reply; at = m.clock }) → KeepsReplies new
+  answered : (fetched : StoreState) (deed : Deed) (number : ℕ) (reply : Reply) → Performs m fetched actor deed outcome new → deed.says ≡ Answers number reply → deed.next ≡ at.SessionIdle → StandsSomewhere new.order (record { line = number; reply = reply; at = m.clock }) → RepliesStand new
   answered fetched deed number reply performs says next stands = done fetched deed performs (one_given deed number reply says stands) (never_waits deed (idle_never deed next))
 
   awaits_same : (a b : Activity) (number other place elsewhere : ℕ) (reply said : Reply) → a ≡ at.SessionAwait number reply place → a ≡ at.SessionAwait other said elsewhere → (number ≡ other) × (place ≡ elsewhere) × (reply ≡ said)
@@ -81,7 +74,7 @@ module _ (m : Machine) (actor : ℕ) (outcome : Outcome) (new : Machine) (keeps 
       let three : reply ≡ said = cc in
       (one, two, three)
 
-  fated : (fetched : StoreState) (deed : Deed) → LineFate m (m.activity actor) deed → Performs m fetched actor deed outcome new → KeepsReplies new
+  fated : (fetched : StoreState) (deed : Deed) → LineFate m (m.activity actor) deed → Performs m fetched actor deed outcome new → RepliesStand new
   fated fetched deed (inl goes) performs = quiet fetched deed performs (goes.quiet m.clock) goes.awaits
   fated fetched deed (inr (inl takes)) performs =
       let entry : Entry = record { line = takes.line; reply = takes.reply } in
@@ -96,17 +89,17 @@ module _ (m : Machine) (actor : ℕ) (outcome : Outcome) (new : Machine) (keeps 
       })
   fated fetched deed (inr (inr gives)) performs = answered fetched deed gives.line.number gives.reply performs gives.says gives.next (inl gives.outside)
 
-  worked : Works m actor outcome new → KeepsReplies new
+  worked : Works m actor outcome new → RepliesStand new
   worked (inl (by, way, so)) = stays (stays_so m actor outcome new (outcomes.Blocked by) so)
   worked (inr (inl (free, unready, inl (waits, force)))) = stays (forces_so m actor outcome new outcomes.Helped force)
   worked (inr (inl (free, unready, inr (none, rest)))) =
-      ready_kind m outcome new (KeepsReplies new) none (λ more. stays (more_so m actor outcome new more)) rest
+      ready_kind m outcome new (RepliesStand new) none (λ more. stays (more_so m actor outcome new more)) rest
   worked (inr (inr (free, ready, inl acts))) = fated acts.fetched acts.deed (fate_row m acts.fetched (m.activity actor) _ acts.deed acts.row) acts.performs
   worked (inr (inr (free, ready, inr (inl gives)))) = fated gives.fetched _ (fate_given_up m gives.why (m.activity actor)) gives.performs
   worked (inr (inr (free, ready, inr (inr meets)))) = stays (meets_so m actor outcome new meets)
 
-  pub replies_kept : StepsTo m actor outcome new → KeepsReplies new
-  replies_kept step = each_step m actor outcome new (KeepsReplies new) (record {
+  pub replies_kept : StepsTo m actor outcome new → RepliesStand new
+  replies_kept step = each_step m actor outcome new (RepliesStand new) (record {
     stays = λ said plain so. stays (stays_so m actor outcome new said so);
     forces = λ said silent force. stays (forces_so m actor outcome new said force);
     more = λ more. stays (more_so m actor outcome new more);
@@ -114,6 +107,6 @@ module _ (m : Machine) (actor : ℕ) (outcome : Outcome) (new : Machine) (keeps 
     refuses = λ line idle next boxes performs. answered m.store _ line.number replies.NoMemory performs refl refl (inl tt);
     posts = λ deed idle takes performs. quiet m.store deed performs (ap (λ (d : Deed). given_by (outcome_of d.says) m.clock) takes.deed_is) (post_waits_never m deed takes);
     merges = λ deed idle takes performs. quiet m.store deed performs (ap (λ (d : Deed). given_by (outcome_of d.says) m.clock) takes.deed_is) (merge_waits_never m deed takes);
-    settles = λ number place reply is settled performs. answered m.store _ number reply performs refl refl (inr (place, stands_longer m new [] number place reply performs.order (keeps.awaits actor number place reply is)));
+    settles = λ number place reply is settled performs. answered m.store _ number reply performs refl refl (inr (place, stands_longer m.order new.order [] number place reply performs.order (keeps.awaits actor number place reply is)));
     works = λ none works. worked works;
   }) step

@@ -1,6 +1,5 @@
--- After a step the file before each group that waits has the set after as many entries of the order as its mark says, marks
--- don't fall, and each answered entry stands below the oldest one's.
-use Rattle.hb_core.proofs.Orders.OrderPlaces.{StandsSomewhere}
+-- After a step the file before each group that waits has the set after as many entries of the order as its mark says, and each
+-- answered entry stands below the oldest one's.
 use Rattle.std.proofs.Common.{◌≡◌, ◌⊎◌, inl, inr, ℕ, ◌<◌, ◌≤◌, List, [], ◌∷◌, ◌++◌, length, take, get_or, All, AllPairs, Option, Some, None, option_map, refl, sym, ap, ◌∙◌, subst, arith, append-nil}
 use Rattle.std.proofs.lemmas.List.{length-append, take_all, take-append-le}
 use Rattle.std.proofs.lemmas.List.Elements.{All-append, All-cons, All-nil}
@@ -20,7 +19,8 @@ use Rattle.hb_core.specs.Acting.{MeetsBadPage}
 use Rattle.hb_core.specs.Forcing.{ForcesAll, StaysSo, forced_files}
 use Rattle.hb_core.specs.KeepingLaws.{IsAnsweredInPlace, PrefixStaysPending, SettledStaysSettled}
 use Rattle.hb_core.specs.Keeps.{HasSoundFile}
-use Rattle.hb_core.specs.KeptOrder.{FollowMarks, IsNoLater, HasLegalOrder, HasPendingPrefix, StandsInOrder}
+use Rattle.hb_core.specs.KeptOrder.{FollowMarks, HasLegalOrder, HasPendingPrefix, IsSettledIn, StandsInOrder, StandsSomewhere}
+use Rattle.hb_core.specs.KeptPlaces.{RepliesStand}
 use Rattle.hb_core.specs.Machines.{Files, Machine, current_file, settled_count}
 use Rattle.hb_core.specs.Performing.{MayDo, Performs, files_after, given_by, with_effect}
 use Rattle.hb_core.specs.Steps.{StepsTo, Works}
@@ -31,10 +31,8 @@ use Rattle.hb_set.specs.Order.{Entry, IsLegalOrder, result_of}
 use Rattle.hb_store.specs.Making.{group_here}
 use Rattle.hb_store.specs.States.{StoreState}
 use Rattle.hb_wal.proofs.Facts.Marks.{mark_inside}
-use Rattle.hb_wal.specs.Log.{LogState, Waiting, mark_of}
+use Rattle.hb_wal.specs.Log.{IsMarkedTo, IsNoLater, LogState, Waiting, mark_of}
 use Rattle.std.proofs.lemmas.Option.{same_Some}
-use Rattle.hb_lemmas.proofs.Pairs.{pairs_none}
-use Rattle.std.proofs.lemmas.List.Quantifiers.{all_pairs_push}
 use Rattle.std.specs.Option.{option_to_list}
 
 -- ---- groups and the files before them
@@ -61,17 +59,17 @@ follows_one_more n order before (first ∷ rest) (x ∷ later) group next same l
 
 -- ---- their marks
 
-pub marks_inside : (n : RecordSet) (order : List Entry) (before : FileState) (groups : List Waiting) (later : List FileState) → FollowMarks n order before groups later → All (λ (g : Waiting). g.mark ≤ length order) groups
-marks_inside n order before [] later follows = All-nil (λ (g : Waiting). g.mark ≤ length order)
+pub marks_inside : (n : RecordSet) (order : List Entry) (before : FileState) (groups : List Waiting) (later : List FileState) → FollowMarks n order before groups later → All (IsMarkedTo (length order)) groups
+marks_inside n order before [] later follows = All-nil (IsMarkedTo (length order))
 marks_inside n order before (group ∷ rest) [] follows = absurd follows
-marks_inside n order before (group ∷ rest) (next ∷ later) (low, has, follows) = All-cons (λ (g : Waiting). g.mark ≤ length order) group rest low (marks_inside n order next rest later follows)
+marks_inside n order before (group ∷ rest) (next ∷ later) (low, has, follows) = All-cons (IsMarkedTo (length order)) group rest low (marks_inside n order next rest later follows)
 
 -- the oldest mark never falls
 later_mark : (groups : List Waiting) (now then : ℕ) → now ≤ then → mark_of groups now ≤ mark_of groups then
 later_mark [] now then le = le
 later_mark (first ∷ rest) now then le = omega arith
 
-pub next_mark : (first : Waiting) (rest : List Waiting) (now : ℕ) → All (λ (g : Waiting). g.mark ≤ now) (first ∷ rest) → AllPairs IsNoLater (first ∷ rest) → first.mark ≤ mark_of rest now
+pub next_mark : (first : Waiting) (rest : List Waiting) (now : ℕ) → All (IsMarkedTo now) (first ∷ rest) → AllPairs IsNoLater (first ∷ rest) → first.mark ≤ mark_of rest now
 next_mark first [] now low rising = low 0 first (omega arith)
 next_mark first (second ∷ rest) now low rising = rising 0 1 first (omega arith) (omega arith)
 
@@ -83,30 +81,28 @@ joined_mark (first ∷ rest) group now then is = omega arith
 
 pub record KeepsMarks (n : RecordSet) (m new : Machine) (files : Files) : Type 0 where
   pub marks : FollowMarks n new.order files.durable new.store.log.groups files.later
-  pub rising : AllPairs IsNoLater new.store.log.groups
   pub rises : settled_count m ≤ settled_count new
 
 module _ (n : RecordSet) (m : Machine) (files : Files) (new : Machine) (files' : Files) (told : m.files ≡ Some files) (told' : new.files ≡ Some files') (sound : HasSoundFile m files) (legal : HasLegalOrder n m files) (pending : HasPendingPrefix n m files) where
-  kept_as : (order : List Entry) (groups : List Waiting) (f : Files) → new.order ≡ order → new.store.log.groups ≡ groups → new.files ≡ Some f → FollowMarks n order f.durable groups f.later → AllPairs IsNoLater groups → settled_count m ≤ mark_of groups (length order) → KeepsMarks n m new files'
-  kept_as order groups f order_is groups_is files_are follows rising rises =
+  kept_as : (order : List Entry) (groups : List Waiting) (f : Files) → new.order ≡ order → new.store.log.groups ≡ groups → new.files ≡ Some f → FollowMarks n order f.durable groups f.later → settled_count m ≤ mark_of groups (length order) → KeepsMarks n m new files'
+  kept_as order groups f order_is groups_is files_are follows rises =
       let is : f ≡ files' = same_Some f files' (sym files_are ∙ told') in
       record {
         marks =
             subst (λ (x : Files). FollowMarks n new.order x.durable new.store.log.groups x.later) is
             (subst (λ (gs : List Waiting). FollowMarks n new.order f.durable gs f.later) (sym groups_is)
             (subst (λ (es : List Entry). FollowMarks n es f.durable groups f.later) (sym order_is) follows));
-        rising = subst (λ (gs : List Waiting). AllPairs IsNoLater gs) (sym groups_is) rising;
         rises = subst (λ (gs : List Waiting). settled_count m ≤ mark_of gs (length new.order)) (sym groups_is) (subst (λ (es : List Entry). settled_count m ≤ mark_of groups (length es)) (sym order_is) rises);
       }
 
-  low : All (λ (g : Waiting). g.mark ≤ length m.order) m.store.log.groups
+  low : All (IsMarkedTo (length m.order)) m.store.log.groups
   low = marks_inside n m.order files.durable m.store.log.groups files.later pending.marks
 
   -- the order grows
   grown : (more : List Entry) → new.order ≡ m.order ++ more → new.store.log.groups ≡ m.store.log.groups → new.files ≡ m.files → KeepsMarks n m new files'
   grown more order_is groups_are files_are =
       let long = length-append {A = Entry} m.order more in
-      kept_as (m.order ++ more) m.store.log.groups files order_is groups_are (files_are ∙ told) (follows_longer n m.order more files.durable m.store.log.groups files.later pending.marks) pending.rising
+      kept_as (m.order ++ more) m.store.log.groups files order_is groups_are (files_are ∙ told) (follows_longer n m.order more files.durable m.store.log.groups files.later pending.marks)
       (later_mark m.store.log.groups (length m.order) (length (m.order ++ more)) (omega (arith, long)))
 
   same : new.order ≡ m.order → new.store.log.groups ≡ m.store.log.groups → new.files ≡ m.files → KeepsMarks n m new files'
@@ -115,7 +111,7 @@ module _ (n : RecordSet) (m : Machine) (files : Files) (new : Machine) (files' :
   -- the groups are forced, and none waits
   forced : new.order ≡ m.order → new.store.log.groups ≡ [] → new.files ≡ option_map forced_files m.files → KeepsMarks n m new files'
   forced order_is groups_are files_are =
-      kept_as m.order [] (forced_files files) order_is groups_are (files_are ∙ ap (option_map forced_files) told) tt (pairs_none IsNoLater) (mark_inside m.store.log.groups (length m.order) low)
+      kept_as m.order [] (forced_files files) order_is groups_are (files_are ∙ ap (option_map forced_files) told) tt (mark_inside m.store.log.groups (length m.order) low)
 
   -- a group joins those that wait
   joined : (more : List Entry) (group : Waiting) (op : Op) → group.mark ≡ length m.order → new.order ≡ m.order ++ more → new.store.log.groups ≡ m.store.log.groups ++ group ∷ [] → new.files ≡ option_map (with_effect op) m.files → KeepsMarks n m new files'
@@ -125,10 +121,8 @@ module _ (n : RecordSet) (m : Machine) (files : Files) (new : Machine) (files' :
       let whole : take group.mark (m.order ++ more) ≡ m.order = ap (λ (k : ℕ). take k (m.order ++ more)) mark ∙ take-append-le (length m.order) m.order more (omega arith) ∙ take_all (length m.order) m.order (omega arith) in
       let has : contents_of (current_file files) ≡ result_of n (take group.mark (m.order ++ more)) = sym legal.result ∙ sym (ap (result_of n) whole) in
       let follows = follows_longer n m.order more files.durable m.store.log.groups files.later pending.marks in
-      let below : All (λ (g : Waiting). g.mark ≤ group.mark) m.store.log.groups = subst (λ (k : ℕ). All (λ (g : Waiting). g.mark ≤ k) m.store.log.groups) (sym mark) low in
       kept_as (m.order ++ more) (m.store.log.groups ++ group ∷ []) (with_effect op files) order_is groups_are (files_are ∙ ap (option_map (with_effect op)) told)
       (follows_one_more n (m.order ++ more) files.durable m.store.log.groups files.later group _ sound.each inside has follows)
-      (all_pairs_push IsNoLater m.store.log.groups group pending.rising below)
       (joined_mark m.store.log.groups group (length m.order) (length (m.order ++ more)) mark)
 
   module _ (actor : ℕ) (outcome : Outcome) where
@@ -177,22 +171,19 @@ module _ (n : RecordSet) (m : Machine) (files : Files) (new : Machine) (files' :
 
 -- ---- each answered entry stands below the oldest mark
 
-abbrev pub IsSettledIn : Machine → Answered → Type 0
-IsSettledIn m a = (place : ℕ) → StandsInOrder m a.line a.reply place → place < settled_count m
-
-module _ (n : RecordSet) (m : Machine) (files : Files) (actor : ℕ) (new : Machine) (more : List Entry) (legal : HasLegalOrder n m files) (pending : HasPendingPrefix n m files) (legal_now : IsLegalOrder n new.order) (order_is : new.order ≡ m.order ++ more) (rises : settled_count m ≤ settled_count new) where
-  settled_at : (number place other : ℕ) (reply : Reply) → StandsInOrder m number reply other → other < settled_count m → StandsInOrder new number reply place → place < settled_count new
+module _ (n : RecordSet) (m : Machine) (files : Files) (actor : ℕ) (new : Machine) (more : List Entry) (stand : RepliesStand m) (pending : HasPendingPrefix n m files) (legal_now : IsLegalOrder n new.order) (order_is : new.order ≡ m.order ++ more) (rises : settled_count m ≤ settled_count new) where
+  settled_at : (number place other : ℕ) (reply : Reply) → StandsInOrder m.order number reply other → other < settled_count m → StandsInOrder new.order number reply place → place < settled_count new
   settled_at number place other reply stood less stands =
-      let same = one_place n new number place other reply legal_now stands (stands_longer m new more number other reply order_is stood) in
+      let same = one_place n new.order number place other reply legal_now stands (stands_longer m.order new.order more number other reply order_is stood) in
       omega (arith, same, less, rises)
 
-  by_old : (a : Answered) → StandsSomewhere m a → IsSettledIn m a → IsSettledIn new a
-  by_old a (inl outside) settled place stands = absurd (no_place n new a.line place a.reply legal_now outside stands)
+  by_old : (a : Answered) → StandsSomewhere m.order a → IsSettledIn m a → IsSettledIn new a
+  by_old a (inl outside) settled place stands = absurd (no_place n new.order a.line place a.reply legal_now outside stands)
   by_old a (inr (other, stood)) settled place stands = settled_at a.line place other a.reply stood (settled other stood) stands
 
   by_new : (number : ℕ) (reply : Reply) (at : ℕ) → IsAnsweredInPlace m actor (outcomes.Answered number reply) → IsSettledIn new (record { line = number; reply = reply; at = at })
-  by_new number reply at (inl outside) place stands = absurd (no_place n new number place reply legal_now outside stands)
-  by_new number reply at (inr (other, is, less)) place stands = settled_at number place other reply (legal.awaits actor number other reply is) less stands
+  by_new number reply at (inl outside) place stands = absurd (no_place n new.order number place reply legal_now outside stands)
+  by_new number reply at (inr (other, is, less)) place stands = settled_at number place other reply (stand.awaits actor number other reply is) less stands
 
   given_settled : (outcome : Outcome) (at : ℕ) → IsAnsweredInPlace m actor outcome → All (IsSettledIn new) (given_by outcome at)
   given_settled (outcomes.Answered number reply) at in_place = All-cons (IsSettledIn new) _ [] (by_new number reply at in_place) (All-nil (IsSettledIn new))
@@ -206,7 +197,7 @@ module _ (n : RecordSet) (m : Machine) (files : Files) (actor : ℕ) (new : Mach
   answers_settled : (outcome : Outcome) → IsAnsweredInPlace m actor outcome → new.answered ≡ m.answered ++ given_by outcome new.clock → All (IsSettledIn new) new.answered
   answers_settled outcome in_place is =
       subst (λ (l : List Answered). All (IsSettledIn new) l) (sym is)
-      (All-append (IsSettledIn new) m.answered (given_by outcome new.clock) (λ k d lt. by_old (get_or m.answered k d) (legal.answers k d lt) (pending.settled k d lt)) (given_settled outcome new.clock in_place))
+      (All-append (IsSettledIn new) m.answered (given_by outcome new.clock) (λ k d lt. by_old (get_or m.answered k d) (stand.answers k d lt) (pending.settled k d lt)) (given_settled outcome new.clock in_place))
 
 -- ---- each step
 
@@ -215,13 +206,12 @@ grown_by m new (inl same) = ([], same ∙ sym (append-nil m.order))
 grown_by m new (inr (entry, is)) = (entry ∷ [], is)
 
 pub prefix_stays_pending : PrefixStaysPending
-prefix_stays_pending n m files actor outcome new files' told told' sound legal pending step legal_now =
+prefix_stays_pending n m files actor outcome new files' told told' sound legal stand pending step legal_now =
     let marks = keeps_marks n m files new files' told told' sound legal pending actor outcome step in
     let more = grown_by m new (order_grows m actor outcome new step).1 in
     record {
       marks = marks.marks;
-      rising = marks.rising;
-      settled = answers_settled n m files actor new more.0 legal pending legal_now more.1 marks.rises outcome (answers_are_in_place m actor outcome new step) (answers_are_timed m actor outcome new step);
+      settled = answers_settled n m files actor new more.0 stand pending legal_now more.1 marks.rises outcome (answers_are_in_place m actor outcome new step) (answers_are_timed m actor outcome new step);
     }
 
 -- and no place is unsettled

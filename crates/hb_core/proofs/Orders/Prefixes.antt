@@ -1,16 +1,16 @@
 -- The durable file has the set after a prefix of the order that has each answered entry, and those that wait after longer ones.
-use Rattle.std.proofs.Common.{◌≡◌, ◌⊎◌, inl, inr, ℕ, ◌<◌, ◌≤◌, List, [], ◌∷◌, length, take, get_or, All, AllPairs, sym, ap, ◌∙◌, arith}
+use Rattle.std.proofs.Common.{◌≡◌, inl, inr, ℕ, ◌≤◌, List, [], ◌∷◌, length, take, get_or, All, AllPairs, sym, ap, ◌∙◌, arith}
 use Rattle.std.proofs.lemmas.List.{take_all}
 use Rattle.std.proofs.lemmas.List.Elements.{All-cons, All-nil, All-weaker}
 use Rattle.hb_set.specs.declared.scripts.Answered.{Answered}
 use Rattle.hb_core.proofs.Orders.PendingKept.{marks_inside, next_mark}
 use Rattle.hb_core.specs.KeepingLaws.{FilesHavePrefixes, IsAfterLonger, IsAmongFirst}
-use Rattle.hb_core.specs.KeptOrder.{IsNoLater, FollowMarks, StandsInOrder, StandsOutside}
+use Rattle.hb_core.specs.KeptOrder.{FollowMarks, IsSettledIn, StandsSomewhere}
 use Rattle.hb_core.specs.Machines.{settled_count}
 use Rattle.hb_ops.specs.Files.{FileState, contents_of, last_of}
 use Rattle.hb_set.specs.Machine.{RecordSet}
 use Rattle.hb_set.specs.Order.{Entry, result_of}
-use Rattle.hb_wal.specs.Log.{Waiting, mark_of}
+use Rattle.hb_wal.specs.Log.{IsNoLater, Waiting, mark_of}
 use Rattle.hb_lemmas.proofs.Pairs.{pairs_rest}
 
 -- a file has the set after so many entries
@@ -45,15 +45,15 @@ later_files n order low before (group ∷ rest) (next ∷ later) (inside, has, f
     (later_files n order low next rest later follows (pairs_rest IsNoLater group rest rising) shorter result further)
 
 pub files_have_prefixes : FilesHavePrefixes
-files_have_prefixes n m files sound legal pending =
+files_have_prefixes n m files sound legal stand rise pending =
     let first = first_file n m.order (settled_count m) files.durable m.store.log.groups files.later pending.marks sound.each legal.result (omega arith) in
-    let rest = later_files n m.order (settled_count m) files.durable m.store.log.groups files.later pending.marks pending.rising sound.each legal.result (omega arith) in
+    let rest = later_files n m.order (settled_count m) files.durable m.store.log.groups files.later pending.marks rise.rising sound.each legal.result (omega arith) in
     record {
-      durable = record { inside = first.inside; contents = first.contents; answered = λ k d lt. among (get_or m.answered k d) (legal.answers k d lt) (pending.settled k d lt) };
+      durable = record { inside = first.inside; contents = first.contents; answered = λ k d lt. among (get_or m.answered k d) (stand.answers k d lt) (pending.settled k d lt) };
       later = All-weaker (HasSome n m.order (settled_count m)) (IsAfterLonger n m) (λ s. longer s) files.later rest;
     }
   where
-    among : (a : Answered) → StandsOutside a.reply ⊎ ((place : ℕ) × StandsInOrder m a.line a.reply place) → ((place : ℕ) → StandsInOrder m a.line a.reply place → place < settled_count m) → IsAmongFirst m (settled_count m) a
+    among : (a : Answered) → StandsSomewhere m.order a → IsSettledIn m a → IsAmongFirst m (settled_count m) a
     among a (inl outside) settled = inl outside
     among a (inr (place, stands)) settled = inr (place, settled place stands, stands)
 
@@ -68,6 +68,6 @@ files_have_prefixes n m files sound legal pending =
       record {
         inside = has.inside;
         contents = has.contents;
-        answered = λ k d lt. further count has.above (get_or m.answered k d) (among (get_or m.answered k d) (legal.answers k d lt) (pending.settled k d lt));
+        answered = λ k d lt. further count has.above (get_or m.answered k d) (among (get_or m.answered k d) (stand.answers k d lt) (pending.settled k d lt));
       },
     )

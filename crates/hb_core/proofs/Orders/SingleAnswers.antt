@@ -12,7 +12,7 @@ use Rattle.hb_core.proofs.Orders.ShortOrder.{next_not_placed}
 use Rattle.hb_core.proofs.Facts.StepLines.{LinesAfter, PlaceSettled, lines_after}
 use Rattle.hb_core.specs.KeptMachine.{MachineKeeps}
 use Rattle.hb_core.specs.KeptOrder.{StandsOutside}
-use Rattle.hb_core.specs.KeptPlaces.{AnswersAreSingle, RepliesStand}
+use Rattle.hb_core.specs.KeptPlaces.{AnswersAreSingle, AwaitsNoneOutside}
 use Rattle.hb_core.specs.KeptSequence.{LinesInSequence, awaited_number}
 use Rattle.hb_core.specs.Machines.{Machine}
 use Rattle.hb_core.specs.Steps.{StepsTo}
@@ -36,7 +36,7 @@ none_to number (a ∷ answered) none = elim (cases_Bool (a.line == number)) [
   | inr off ↦ All-cons (λ (a : Answered). a.line ≢ number) a answered (eqb-false a.line number off) (none_to number answered (sym (ap (λ (b : Bool). b || is_answered number answered) off) ∙ none))
 ]
 
-module _ (m : Machine) (actor : ℕ) (new : Machine) (sequence : LinesInSequence m) (stand : RepliesStand m) (single : AnswersAreSingle m) where
+module _ (m : Machine) (actor : ℕ) (new : Machine) (sequence : LinesInSequence m) (inside : AwaitsNoneOutside m) (single : AnswersAreSingle m) where
   -- the next line of a session has no answer
   next_open : (line : Line) → next_line actor m.answered m.lines ≡ Some line → All (λ (a : Answered). a.line ≢ line.number) m.answered
   next_open line next = none_to line.number m.answered (next_is actor m.answered m.lines line next).open_yet
@@ -67,7 +67,7 @@ module _ (m : Machine) (actor : ℕ) (new : Machine) (sequence : LinesInSequence
   single_after (inr (inr (inr settled))) =
       as_one m.order _ settled.order settled.answered
       (all_pairs_push AreToTwo m.answered _ single.once (awaited_open settled))
-      (All-push (StandsNowhere m.order) m.answered _ single.outside (λ outside. absurd (stand.inside actor settled.number settled.place settled.reply settled.waited outside)))
+      (All-push (StandsNowhere m.order) m.answered _ single.outside (λ outside. absurd (inside actor settled.number settled.place settled.reply settled.waited outside)))
 
 pub answers_stay_single : (m : Machine) (actor : ℕ) (outcome : Outcome) (new : Machine) → IsActor actor → MachineKeeps m → StepsTo m actor outcome new → AnswersAreSingle new
-answers_stay_single m actor outcome new may keeps step = single_after m actor new keeps.lines_in_sequence keeps.replies_stand keeps.answers_single (lines_after m actor outcome new keeps.lines_in_sequence step)
+answers_stay_single m actor outcome new may keeps step = single_after m actor new keeps.lines_in_sequence keeps.awaits_inside keeps.answers_single (lines_after m actor outcome new keeps.lines_in_sequence step)

@@ -49,10 +49,10 @@ module _ (m : Machine) (fetched : StoreState) (brings : Brings m AnyPage fetched
       by (inl has) (inl is) = at_half source is has
       by (inr has) (inr is) = at_half fresh is has
       by (inl has) (inr is) =
-          let first = subst (λ (q : LivePage). DirectlyHolds q row.rec.key) (same_Some has.page one.first (sym has.live ∙ one.first_live)) has.direct in
+          let first = subst (λ (q : LivePage). DirectlyHolds q row.rec.key) (same_Some has.home.page one.first (sym has.home.live ∙ one.first_live)) has.home.direct in
           absurd (one.not_both first (the_half fresh one.second one.second_live is (inr refl)))
       by (inr has) (inl is) =
-          let second = subst (λ (q : LivePage). DirectlyHolds q row.rec.key) (same_Some has.page one.second (sym has.live ∙ one.second_live)) has.direct in
+          let second = subst (λ (q : LivePage). DirectlyHolds q row.rec.key) (same_Some has.home.page one.second (sym has.home.live ∙ one.second_live)) has.home.direct in
           absurd (one.not_both (the_half source one.first one.first_live is (inl refl)) second)
 
   put_finds : (half : ℕ) (rec : Record) → deed.op ≡ Some (Put half rec) → (same : Record) → line.command ≡ Insert same → OneHasRoom m source fresh same.key same.body → HasRoomFor m half rec.key rec.body

@@ -32,7 +32,7 @@ use Rattle.hb_core.specs.Fetching.{Brings, MustStay}
 use Rattle.hb_core.specs.Forcing.{ForcesAll, StaysSo}
 use Rattle.hb_core.specs.KeepingLaws.{RoomStaysKnown}
 use Rattle.hb_core.specs.KeptLines.{MetaWithinLimits}
-use Rattle.hb_core.specs.Keeps.{HasNobodyElse, HasRoomFor, HoldsPagesOfFile, KnowsRoom, LacksRoomFor, LatchesFit, OneHasRoom}
+use Rattle.hb_core.specs.Keeps.{HasNobodyElse, HasRoomFor, HoldsPagesOfFile, KnowsRoom, LacksRecordAt, LacksRoomFor, LatchesFit, OneHasRoom}
 use Rattle.hb_core.specs.Machines.{Machine, live_here}
 use Rattle.hb_core.specs.Performing.{MayDo, Performs, latches_held, mode_among}
 use Rattle.hb_core.specs.Steps.{StepsTo, Works}
@@ -124,24 +124,19 @@ all_know m each = record { splits = λ actor. (each actor).splits; puts = λ act
 
 -- the same in a memory that has the page
 module _ (m new : Machine) (capacity : SameCapacity m new) where
+  abbrev home_again : (id : ℕ) (p : List ℕ) → ((page : LivePage) → live_here m.store id ≡ Some page → live_here new.store id ≡ Some page) → LacksRecordAt m id p → LacksRecordAt new id p
+  home_again id p there home = record { page = home.page; live = there home.page home.live; level = home.level; direct = home.direct; absent = home.absent }
+
   lacks_again : (held : ℕ) (p body : List ℕ) → ((page : LivePage) → live_here m.store held ≡ Some page → live_here new.store held ≡ Some page) → LacksRoomFor m held p body → LacksRoomFor new held p body
   lacks_again held p body there lacks = record {
-    page = lacks.page;
-    live = there lacks.page lacks.live;
-    level = lacks.level;
-    direct = lacks.direct;
-    absent = lacks.absent;
-    full = subst (λ (n : ℕ). n < weight_of (put_page (record { key = p; body = body }) lacks.page).frag) (sym capacity) lacks.full;
+    home = home_again held p there lacks.home;
+    full = subst (λ (n : ℕ). n < weight_of (put_page (record { key = p; body = body }) lacks.home.page).frag) (sym capacity) lacks.full;
   }
 
   has_again : (half : ℕ) (p body : List ℕ) → ((page : LivePage) → live_here m.store half ≡ Some page → live_here new.store half ≡ Some page) → HasRoomFor m half p body → HasRoomFor new half p body
   has_again half p body there has = record {
-    page = has.page;
-    live = there has.page has.live;
-    level = has.level;
-    direct = has.direct;
-    absent = has.absent;
-    room = subst (λ (n : ℕ). weight_of (put_page (record { key = p; body = body }) has.page).frag ≤ n) (sym capacity) has.room;
+    home = home_again half p there has.home;
+    room = subst (λ (n : ℕ). weight_of (put_page (record { key = p; body = body }) has.home.page).frag ≤ n) (sym capacity) has.room;
   }
 
   pub splits_again : (line : Line) (held : ℕ) → ((page : LivePage) → live_here m.store held ≡ Some page → live_here new.store held ≡ Some page) → LacksRoom m line held → LacksRoom new line held

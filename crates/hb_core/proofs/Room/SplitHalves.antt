@@ -60,11 +60,13 @@ module _ (m : Machine) (actor : ℕ) (may : ℕ → Type 0) (fetched : StoreStat
       let store = nothing_done deed.op _ fetched new.store (ap (λ (d : Deed). d.op) full.row.deed_is) does in
       let good = fetched_good m may fetched inside brings full.id full.page full.live in
       record {
-        page = full.page;
-        live = ap (λ (st : StoreState). live_here st full.id) store ∙ full.live;
-        level = full.row.level;
-        direct = holds_directly laws.trees full.page full.rec.key m.store.meta good.0.fits.1 good.1 full.row.absent;
-        absent = full.row.absent;
+        home = record {
+          page = full.page;
+          live = ap (λ (st : StoreState). live_here st full.id) store ∙ full.live;
+          level = full.row.level;
+          direct = holds_directly laws.trees full.page full.rec.key m.store.meta good.0.fits.1 good.1 full.row.absent;
+          absent = full.row.absent;
+        };
         full = subst (λ (st : StoreState). st.meta.dcap < weight_of (put_page full.rec full.page).frag) (sym store) full.row.full;
       }
 
@@ -79,23 +81,23 @@ module _ (m : Machine) (actor : ℕ) (may : ℕ → Type 0) (fetched : StoreStat
   page = row.page
 
   -- the page that lacked room
-  same_page : lacks.page ≡ page
-  same_page = same_Some lacks.page page (sym (both_there m may fetched brings held lacks.page page (inr must) lacks.live row.live) ∙ row.live)
+  same_page : lacks.home.page ≡ page
+  same_page = same_Some lacks.home.page page (sym (both_there m may fetched brings held lacks.home.page page (inr must) lacks.home.live row.live) ∙ row.live)
 
   abbrev p : List ℕ
   p = rec.key
 
   live_before : live_here m.store held ≡ Some page
-  live_before = lacks.live ∙ ap (λ (q : LivePage). Some q) same_page
+  live_before = lacks.home.live ∙ ap (λ (q : LivePage). Some q) same_page
 
   level : page.level ≡ 0
-  level = ap (λ (q : LivePage). q.level) (sym same_page) ∙ lacks.level
+  level = ap (λ (q : LivePage). q.level) (sym same_page) ∙ lacks.home.level
 
   direct : DirectlyHolds page p
-  direct = subst (λ (q : LivePage). DirectlyHolds q p) same_page lacks.direct
+  direct = subst (λ (q : LivePage). DirectlyHolds q p) same_page lacks.home.direct
 
   absent : StandsNot page p
-  absent = subst (λ (q : LivePage). StandsNot q p) same_page lacks.absent
+  absent = subst (λ (q : LivePage). StandsNot q p) same_page lacks.home.absent
 
   full : m.store.meta.dcap < weight_of (put_page rec page).frag
   full = subst (λ (q : LivePage). m.store.meta.dcap < weight_of (put_page rec q).frag) same_page lacks.full
@@ -179,7 +181,8 @@ module _ (m : Machine) (actor : ℕ) (may : ℕ → Type 0) (fetched : StoreStat
   has_room : (id : ℕ) (half : LivePage) → IsHome m.store.meta half p → live_here new.store id ≡ Some half → weight_of half.frag + 1 ≤ m.store.meta.dcap → HasRoomFor new id p rec.body
   has_room id half home live few =
       let put = put_weighs half rec home.absent.records home.absent.area home.made.well_cut home.absent.leaf in
-      record { page = half; live = live; level = home.level; direct = home.direct; absent = home.absent; room = omega (arith, put, few, capacity) }
+      let light : weight_of (put_page rec half).frag ≤ new.store.meta.dcap = omega (arith, put, few, capacity) in
+      record { home = record { page = half; live = live; level = home.level; direct = home.direct; absent = home.absent }; room = light }
 
   pub one_has_room : OneHasRoom new held row.leaves.fresh p rec.body
   one_has_room = record {

@@ -45,7 +45,8 @@ use Rattle.hb_core.proofs.Running.LeafBoxes.{Asks, child_asks_there, place_asks_
 use Rattle.hb_core.proofs.Running.Looks.{may_look, names_stay, wants_same}
 use Rattle.hb_core.proofs.Running.StandsElsewhere.{shows_but, stands_as}
 use Rattle.hb_core.specs.Acting.{IsBadWanted, LacksNeeded, MayNeed}
-use Rattle.hb_core.specs.Asking.{AskedBox, IsNotAsked, around_box, asked_box, box_at, box_by_leaf, box_of_child, box_of_place, box_of_sibling, this_box, wanted_by, whole_box}
+use Rattle.hb_core.specs.AskedBoxes.{IsNotAsked}
+use Rattle.hb_core.specs.Asking.{AskedBox, around_box, asked_box, box_at, box_by_leaf, box_of_child, box_of_place, box_of_sibling, this_box, wanted_by, whole_box}
 use Rattle.hb_core.specs.Fetching.{Brings, IsDamaged, IsWantedPage}
 use Rattle.hb_core.specs.Keeps.{HasSoundFile}
 use Rattle.hb_core.specs.KeptMerges.{NamesKnown, merging_at}

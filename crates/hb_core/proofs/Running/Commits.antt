@@ -29,7 +29,7 @@ use Rattle.hb_store.specs.Calls.{HasFrameFor, HasPlaces, IsReady}
 use Rattle.hb_store.specs.Keeps.{StoreKeeps}
 use Rattle.hb_store.specs.States.{StoreState}
 use Rattle.hb_space.specs.declared.form.TheConstants.{GROUP, PENDING}
-use Rattle.hb_wal.specs.Log.{LogState, Waiting, pending_bytes, room_of}
+use Rattle.hb_wal.specs.Log.{IsMarkedTo, LogState, Waiting, pending_bytes, room_of}
 use Rattle.hb_core.proofs.Files.FileOps.{licensed_in_file}
 use Rattle.hb_core.proofs.Files.SoundFiles.{FilesHold, brought_shown, files_hold, shows_file}
 use Rattle.hb_core.proofs.Memory.KeptPages.{brought, keeps_pages}
@@ -97,11 +97,11 @@ module _ (d : DiskModel) (c : RunningCore) (m : Machine) (actor : ℕ) (may : Is
   ready_there : IsReady c.store
   ready_there = subst (λ (log : LogState). (GROUP ≤ room_of log) × (pending_bytes log.groups ≤ PENDING - GROUP)) (sym (ap (λ (s : StoreState). s.log) brings.rest)) made_ready.0
 
-  marks_there : All (λ (g : Waiting). g.mark ≤ length c.order) c.store.log.groups
+  marks_there : All (IsMarkedTo (length c.order)) c.store.log.groups
   marks_there =
       let long : length c.order ≡ length m.order = sym (ap (λ (order : List ℕ). length order) shows.order) ∙ length-map m.order (λ (e : Entry). e.line.number) in
-      subst (λ (groups : List Waiting). All (λ (g : Waiting). g.mark ≤ length c.order) groups) (sym (ap (λ (s : StoreState). s.log.groups) brings.rest))
-      (subst (λ (n : ℕ). All (λ (g : Waiting). g.mark ≤ n) m.store.log.groups) (sym long) keeps.marks_rise.inside)
+      subst (λ (groups : List Waiting). All (IsMarkedTo (length c.order)) groups) (sym (ap (λ (s : StoreState). s.log.groups) brings.rest))
+      (subst (λ (n : ℕ). All (IsMarkedTo n) m.store.log.groups) (sym long) keeps.marks_rise.inside)
 
   module _ (done : RowsMayBeDone) (one_durable : (durable other : FileState) (later others : List FileState) → StoreKeeps d c.store durable later → StoreKeeps d c.store other others → durable ≡ other)
       (one_later : (durable other : FileState) (later others : List FileState) → StoreKeeps d c.store durable later → StoreKeeps d c.store other others → later ≡ others) where
@@ -121,9 +121,9 @@ module _ (d : DiskModel) (c : RunningCore) (m : Machine) (actor : ℕ) (may : Is
     may_commit_row place = record {
       running = ap (λ (s : StoreState). s.stopped) brings.rest ∙ keeps.runs work.runs;
       ready = ready_there;
-      points = here.attributes;
-      allowed = here.allowed;
-      boxes = here.boxes;
+      points = here.doable.points;
+      allowed = here.doable.allowed;
+      boxes = here.doable.boxes;
       place = place;
       licensed = licensed_there;
       marks = marks_there;

@@ -12,7 +12,7 @@ use Rattle.hb_latch.specs.declared.modes.Mode.{Mode}
 use Rattle.hb_latch.specs.Tables.{LatchTable, mode_at}
 use Rattle.hb_pool.proofs.Facts.Others.{came_in}
 use Rattle.hb_pool.proofs.Facts.Pooled.{dirty_stays, pinned_stays}
-use Rattle.hb_pool.specs.Frames.{Use, fresh, must_stay}
+use Rattle.hb_pool.specs.Frames.{IsStaying, Use, fresh}
 use Rattle.hb_pool.specs.Pools.{brought, frame_of}
 use Rattle.hb_store.specs.Calls.{StaysHere, use_fetched}
 use Rattle.hb_store.specs.Held.{IsTied}
@@ -35,14 +35,14 @@ use Rattle.hb_disk.specs.Model.{DiskModel}
 pub dirty_here : (st : StoreState) (uses : List Use) (id : ℕ) → IsTied st uses → IsTrue (is_dirty st id) → StaysHere uses id
 dirty_here st uses id tied dirty = by (frame_of uses id) (sym (tied.marks id) ∙ dirty)
   where
-    by : (o : Option Use) → option_map_or (λ (u : Use). u.dirty) o false ≡ true → IsSomeAnd o (λ (u : Use). IsTrue (must_stay u))
+    by : (o : Option Use) → option_map_or (λ (u : Use). u.dirty) o false ≡ true → IsSomeAnd o IsStaying
     by None is = absurd (false≢true is)
     by (Some u) is = dirty_stays u is
 
 pub pinned_here : (uses : List Use) (id : ℕ) → 0 < pins_of uses id → StaysHere uses id
 pinned_here uses id some = by (frame_of uses id) some
   where
-    by : (o : Option Use) → 0 < option_map_or (λ (u : Use). u.pins) o 0 → IsSomeAnd o (λ (u : Use). IsTrue (must_stay u))
+    by : (o : Option Use) → 0 < option_map_or (λ (u : Use). u.pins) o 0 → IsSomeAnd o IsStaying
     by None some = absurd (omega (arith, some))
     by (Some u) some = pinned_stays u some
 

@@ -41,7 +41,8 @@ use Rattle.hb_core.proofs.Running.Coming.{sound_where_told, told_or_not}
 use Rattle.hb_core.proofs.Running.Looks.{looked_stays}
 use Rattle.hb_core.proofs.Running.StandsElsewhere.{shows_but}
 use Rattle.hb_core.specs.Acting.{Decodes, LacksNeeded, MayNeed, NeedsNumber}
-use Rattle.hb_core.specs.Asking.{AskedBox, asked_box, box_at, looked_live, wanted_by, whole_box, HasItsBox}
+use Rattle.hb_core.specs.AskedBoxes.{HasItsBox}
+use Rattle.hb_core.specs.Asking.{AskedBox, asked_box, box_at, looked_live, wanted_by, whole_box}
 use Rattle.hb_core.specs.Fetching.{Brings, IsBadHead, IsFreeHead, IsWantedPage, MustStay}
 use Rattle.hb_core.specs.Machines.{Files, Machine, current_file, live_here, next_of, next_of_chain, sight, with_disk, with_uses}
 use Rattle.hb_core.specs.Rows.{IsAtHand}

@@ -76,7 +76,7 @@ merging_well actor outcome old new (inr (job, next, kind, merging, does)) = well
 -- a reply that was kept is one of the order
 pub kept_well : (d : DiskModel) (c : RunningCore) (m : Machine) (actor number place : ℕ) (reply : Reply) → MayStep d c m → m.activity actor ≡ at.SessionAwait number reply place → IsWell (outcomes.Answered number reply)
 kept_well d c m actor number place reply step is =
-    answered_well number reply (λ (fault : reply ≡ replies.ReadFault). step.goes_on.kept.replies_stand.inside actor number place reply is (subst StandsOutside (sym fault) tt))
+    answered_well number reply (λ (fault : reply ≡ replies.ReadFault). step.goes_on.kept.awaits_inside actor number place reply is (subst StandsOutside (sym fault) tt))
 
 module _ {D : Type 0} (model : D → DiskModel) (x y : D) (c after : RunningCore) (outcome : Outcome) where
   -- the disk as it was

@@ -72,10 +72,10 @@ module _ (d e : DiskModel) (c : RunningCore) (st : StoreState) (uses : List Use)
     )
       where
         store : cleaned_state id m.store ≡ st
-        store = ap (cleaned_state id) shows.store ∙ ap (λ (h : StoreHeld). h.state) (sym writes.cleaned)
+        store = ap (cleaned_state id) shows.store ∙ ap (λ (h : StoreHeld). h.state) (sym writes.done)
 
         used : in_place id clean m.uses ≡ uses
-        used = ap (in_place id clean) shows.uses ∙ ap (λ (h : StoreHeld). h.uses) (sym writes.cleaned)
+        used = ap (in_place id clean) shows.uses ∙ ap (λ (h : StoreHeld). h.uses) (sym writes.done)
 
     pub fails_home : (fault : WriteFault) → WritesHome (Err fault) id d e (held_in c) now
         → (new : Machine) × FailsToWrite m 1 (outcomes.Stopped stops.WriteFault) new × ShowsMachine e (with_stop stops.WriteFault (with_held st uses c)) new
@@ -108,10 +108,10 @@ module _ (d e : DiskModel) (c : RunningCore) (st : StoreState) (uses : List Use)
     )
       where
         store : switched_state m.store ≡ st
-        store = ap switched_state shows.store ∙ ap (λ (h : StoreHeld). h.state) (sym switches.switched)
+        store = ap switched_state shows.store ∙ ap (λ (h : StoreHeld). h.state) (sym switches.done)
 
         used : m.uses ≡ uses
-        used = shows.uses ∙ ap (λ (h : StoreHeld). h.uses) (sym switches.switched)
+        used = shows.uses ∙ ap (λ (h : StoreHeld). h.uses) (sym switches.done)
 
     pub fails_turn : (fault : WriteFault) → SwitchesTurn (Err fault) d e (held_in c) now
         → (new : Machine) × FailsToWrite m 9 (outcomes.Stopped stops.WriteFault) new × ShowsMachine e (with_stop stops.WriteFault (with_held st uses c)) new

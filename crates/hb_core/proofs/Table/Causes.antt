@@ -122,7 +122,7 @@ answers_first_line m actor number reply new keeps step = answering m actor numbe
 
 -- a reply that is kept for a line stands in the order
 pub kept_inside : (m : Machine) (actor number place : ℕ) (reply : Reply) → MachineKeeps m → StandsOutside reply → m.activity actor ≡ at.SessionAwait number reply place → ⊥
-kept_inside m actor number place reply keeps outside is = keeps.replies_stand.inside actor number place reply is outside
+kept_inside m actor number place reply keeps outside is = keeps.awaits_inside actor number place reply is outside
 
 fault_why : (why : DropWhy) → replies.ReadFault ≡ reply_for why → why ≡ drops.ReadFault
 fault_why drops.ReadFault is = refl

@@ -6,7 +6,6 @@ use Rattle.hb_set.specs.declared.commands.Command.TheVariants.{Insert, Delete, L
 use Rattle.hb_set.specs.declared.commands.Reply.{Reply}
 use Rattle.hb_set.specs.declared.commands.Reply.TheVariants as replies
 use Rattle.hb_core.specs.KeptOrder.{StandsInOrder, StandsOutside}
-use Rattle.hb_core.specs.Machines.{Machine}
 use Rattle.hb_set.specs.Machine.{RecordSet, found_or_missing, if_there, reply_of, set_after}
 use Rattle.hb_set.specs.Order.{AreReplies, Entry, IsLegalOrder, KeepsSessions, MayPrecede}
 use Rattle.hb_lemmas.proofs.Lists.{get-longer, at_place}
@@ -51,18 +50,18 @@ not_outside n (x ∷ es) zero e replies is outside =
 not_outside n (x ∷ es) (suc i) e replies is outside = not_outside (set_after x.line.command n) es i e replies.1 is outside
 
 -- so an answer stands at one place of the order at most
-pub one_place : (n : RecordSet) (m : Machine) (number place other : ℕ) (reply : Reply) → IsLegalOrder n m.order → StandsInOrder m number reply place → StandsInOrder m number reply other → place ≡ other
-one_place n m number place other reply legal first second = same_place m.order place other first.entry second.entry legal.sessions first.there second.there (first.number_is ∙ sym second.number_is)
+pub one_place : (n : RecordSet) (order : List Entry) (number place other : ℕ) (reply : Reply) → IsLegalOrder n order → StandsInOrder order number reply place → StandsInOrder order number reply other → place ≡ other
+one_place n order number place other reply legal first second = same_place order place other first.entry second.entry legal.sessions first.there second.there (first.number_is ∙ sym second.number_is)
 
 -- and one that stands outside at none
-pub no_place : (n : RecordSet) (m : Machine) (number place : ℕ) (reply : Reply) → IsLegalOrder n m.order → StandsOutside reply → StandsInOrder m number reply place → ⊥
-no_place n m number place reply legal outside stands = not_outside n m.order place stands.entry legal.replies stands.there (subst StandsOutside (sym stands.reply_is) outside)
+pub no_place : (n : RecordSet) (order : List Entry) (number place : ℕ) (reply : Reply) → IsLegalOrder n order → StandsOutside reply → StandsInOrder order number reply place → ⊥
+no_place n order number place reply legal outside stands = not_outside n order place stands.entry legal.replies stands.there (subst StandsOutside (sym stands.reply_is) outside)
 
 -- what stands in an order stands in a longer one
-pub stands_longer : (m new : Machine) (more : List Entry) (number place : ℕ) (reply : Reply) → new.order ≡ m.order ++ more → StandsInOrder m number reply place → StandsInOrder new number reply place
-stands_longer m new more number place reply is stands = record {
+pub stands_longer : (order longer more : List Entry) (number place : ℕ) (reply : Reply) → longer ≡ order ++ more → StandsInOrder order number reply place → StandsInOrder longer number reply place
+stands_longer order longer more number place reply is stands = record {
   entry = stands.entry;
-  there = ap (λ (es : List Entry). slice_get es place) is ∙ get-longer m.order more place stands.entry stands.there;
+  there = ap (λ (es : List Entry). slice_get es place) is ∙ get-longer order more place stands.entry stands.there;
   number_is = stands.number_is;
   reply_is = stands.reply_is;
 }

@@ -31,7 +31,8 @@ use Rattle.hb_core.proofs.Walks.MergesKept.{above_records, place_latched, known_
 use Rattle.hb_ops.proofs.Facts.Volumes.{sibling_fewer}
 use Rattle.hb_core.proofs.Walks.WalksKept.{IsAtParent, parent_latched}
 use Rattle.hb_core.specs.AllowedLaws.{AnyPage}
-use Rattle.hb_core.specs.Asking.{asked_box, box_at, box_by_leaf, box_of_place, box_of_sibling, looked_live, this_box, wanted_by, HasItsBox}
+use Rattle.hb_core.specs.AskedBoxes.{HasItsBox}
+use Rattle.hb_core.specs.Asking.{asked_box, box_at, box_by_leaf, box_of_place, box_of_sibling, looked_live, this_box, wanted_by}
 use Rattle.hb_core.specs.Fetching.{Brings}
 use Rattle.hb_core.specs.KeptMachine.{MachineKeeps}
 use Rattle.hb_core.specs.KeptMerges.{AtParent, PairHeld, merging_at, at_parent}

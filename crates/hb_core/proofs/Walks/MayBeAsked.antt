@@ -43,7 +43,8 @@ use Rattle.hb_core.proofs.Walks.WalkingWorkers.{walk_wants_above}
 use Rattle.hb_core.proofs.Walks.WalksKept.{IsAtParent, parent_latched}
 use Rattle.hb_core.specs.AllowedLaws.{AnyPage}
 use Rattle.hb_core.specs.AskedLaws.{AsksToPut, AsksToSplit, AsksWithParent, ChildrenMayBeAsked, OthersMayBeAsked, PagesAtHandFit, PointsMayBeAsked, PosterWalksMayBeAsked, PutsMayBeAsked, SearchesMayBeAsked, SplitsMayBeAsked, WalksStayInside}
-use Rattle.hb_core.specs.Asking.{asked_box, box_at, box_by_leaf, looked_live, HasItsBox}
+use Rattle.hb_core.specs.AskedBoxes.{HasItsBox}
+use Rattle.hb_core.specs.Asking.{asked_box, box_at, box_by_leaf, looked_live}
 use Rattle.hb_core.specs.Fetching.{Brings}
 use Rattle.hb_core.specs.Keeps.{LacksRoomFor, OneHasRoom}
 use Rattle.hb_core.specs.KeptFits.{CommandFits, IsBoxOf, JobFits, LineFits, StandsAbove, boxes_left, walking_job}
@@ -177,15 +178,15 @@ splits_may_be_asked m actor fetched line held free may keeps brings is fits =
   where
     by : (rec : Record) × (line.command ≡ Insert rec) × LacksRoomFor m held rec.key rec.body → AsksToSplit m actor fetched free held
     by (rec, command, lacks) = record {
-      page = lacks.page;
-      live = own_there m AnyPage fetched brings actor held Exclusive lacks.page keeps.latches_fit may (ap (λ (a : Activity). mode_among held (latches_held m.store a)) is ∙ at_itself held (Some Exclusive) None) lacks.live;
-      may = subst (λ (a : Activity). MayAsk a m.store.meta free held lacks.page None) (sym is) (record { given = refl; rec = rec; command = command; absent = lacks.absent; full = lacks.full; number = fits });
+      page = lacks.home.page;
+      live = own_there m AnyPage fetched brings actor held Exclusive lacks.home.page keeps.latches_fit may (ap (λ (a : Activity). mode_among held (latches_held m.store a)) is ∙ at_itself held (Some Exclusive) None) lacks.home.live;
+      may = subst (λ (a : Activity). MayAsk a m.store.meta free held lacks.home.page None) (sym is) (record { given = refl; rec = rec; command = command; absent = lacks.home.absent; full = lacks.full; number = fits });
     }
 
 one_holds : (m : Machine) (source fresh : ℕ) (p body : List ℕ) (one : OneHasRoom m source fresh p body) → DirectlyHolds one.first p ⊎ DirectlyHolds one.second p
 one_holds m source fresh p body one = elim one.room [
-  | inl has ↦ inl (subst (λ (q : LivePage). DirectlyHolds q p) (same_Some has.page one.first (sym has.live ∙ one.first_live)) has.direct)
-  | inr has ↦ inr (subst (λ (q : LivePage). DirectlyHolds q p) (same_Some has.page one.second (sym has.live ∙ one.second_live)) has.direct)
+  | inl has ↦ inl (subst (λ (q : LivePage). DirectlyHolds q p) (same_Some has.home.page one.first (sym has.home.live ∙ one.first_live)) has.home.direct)
+  | inr has ↦ inr (subst (λ (q : LivePage). DirectlyHolds q p) (same_Some has.home.page one.second (sym has.home.live ∙ one.second_live)) has.home.direct)
 ]
 
 -- the halves are two pages, of which not both hold the point

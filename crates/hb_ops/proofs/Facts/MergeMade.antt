@@ -57,7 +57,7 @@ module _ (parts : PartLaws) (joins : JoinLaws) (meta : Meta) (parent keep gone :
   -- the parent
   pub parent_made : FitsFile meta (parent_page keep gone above)
   parent_made =
-      let made = fits.above_made in
+      let made = fits.pages.above_made in
       let t = renamed gone keep above.frag in
       let same = joins.same t in
       let again = renames gone keep above.frag in
@@ -70,12 +70,12 @@ module _ (parts : PartLaws) (joins : JoinLaws) (meta : Meta) (parent keep gone :
           light = omega (arith, same.weight, again.weight, made.filled.light);
           own = λ lone. made.filled.own (renamed_own gone keep above.frag (normal_own t lone));
         };
-        in_order = order_above above.level (normal t) above.area (omega (arith, fits.kept_level)) kinds;
+        in_order = order_above above.level (normal t) above.area (omega (arith, fits.pages.kept_level)) kinds;
         normal = joins.no_alike t;
       }
 
   same_level : going.level ≡ kept.level
-  same_level = omega (arith, fits.kept_level, fits.gone_level)
+  same_level = omega (arith, fits.pages.kept_level, fits.pages.gone_level)
 
   abbrev joined : List Side → Tree
   joined way = with_part way kept.frag going.frag
@@ -83,8 +83,8 @@ module _ (parts : PartLaws) (joins : JoinLaws) (meta : Meta) (parent keep gone :
   -- the page to keep, where the way leads to a leaf of the box of the page that goes
   made_by : (way : List Side) → part_at way kept.frag kept.area ≡ Some (Tip (Sibling gone), going.area) → FitsFile meta (record { level = kept.level; area = kept.area; frag = normal (joined way) })
   made_by way there =
-      let made = fits.kept_made in
-      let other = fits.gone_made in
+      let made = fits.pages.kept_made in
+      let other = fits.pages.gone_made in
       let t = joined way in
       let same = joins.same t in
       let place : Tree × Area = (Tip (Sibling gone), going.area) in

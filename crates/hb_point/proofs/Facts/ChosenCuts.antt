@@ -3,11 +3,10 @@ use Rattle.std.proofs.Common.{◌≡◌, inl, inr, ℕ, List, [], ◌∷◌, ref
 use Rattle.hb_space.specs.declared.records.Record.{Record}
 use Rattle.hb_frag.specs.declared.leaves.Leaf.TheVariants.{Records}
 use Rattle.hb_frag.specs.declared.paths.Side.{Side}
-use Rattle.hb_frag.specs.declared.paths.Side.TheVariants.{Left, Right}
 use Rattle.hb_ops.specs.declared.leaf_cuts.LeafCut.{LeafCut}
 use Rattle.hb_frag.specs.Trees.{Tree, Tip}
 use Rattle.hb_ops.specs.Cutting.{going}
-use Rattle.hb_split.specs.Choosing.{AreChosen, Chooses, IsBest, NotBehind, count_on, heavier_side}
+use Rattle.hb_split.specs.Choosing.{AreChosen, Chooses, IsBestCut, NotBehind, fuller_side}
 
 same_plane : (count axis value count' axis' value' : ℕ) → NotBehind count axis value count' axis' value' → NotBehind count' axis' value' count axis value → (axis ≡ axis') × (value ≡ value')
 same_plane c a v c' a' v' (inl x) (inl y) = absurd (omega (arith, x, y))
@@ -27,11 +26,9 @@ cut_of axis value side = record { axis = axis; value = value; side = side }
 one_cut : (n k : ℕ) (cut other : LeafCut) (tree : Tree) → Chooses n k cut tree → Chooses n k other tree → cut ≡ other
 one_cut n k cut other tree first second =
     let same : second.records ≡ first.records = same_records second.records first.records (sym second.leaf ∙ first.leaf) in
-    let best : IsBest k other.axis other.value first.records = subst (IsBest k other.axis other.value) same second.best in
-    let plane = same_plane _ cut.axis cut.value _ other.axis other.value (first.best.first other.axis other.value best.may) (best.first cut.axis cut.value first.best.may) in
-    let side : other.side ≡ heavier_side (count_on Left other.axis other.value first.records) (count_on Right other.axis other.value first.records) = subst (λ rs. other.side ≡ heavier_side (count_on Left other.axis other.value rs) (count_on Right other.axis other.value rs)) same second.side in
-    let sides : cut.side ≡ other.side = first.side ∙ ap (λ a. heavier_side (count_on Left a cut.value first.records) (count_on Right a cut.value first.records)) plane.0
-    ∙ ap (λ v. heavier_side (count_on Left other.axis v first.records) (count_on Right other.axis v first.records)) plane.1 ∙ sym side in
+    let best : IsBestCut k first.records other = subst (λ rs. IsBestCut k rs other) same second.best in
+    let plane = same_plane _ cut.axis cut.value _ other.axis other.value (first.best.plane.first other.axis other.value best.plane.may) (best.plane.first cut.axis cut.value first.best.plane.may) in
+    let sides : cut.side ≡ other.side = first.best.side ∙ ap (λ a. fuller_side a cut.value first.records) plane.0 ∙ ap (λ v. fuller_side other.axis v first.records) plane.1 ∙ sym best.side in
     ap (λ a. cut_of a cut.value cut.side) plane.0 ∙ ap (λ v. cut_of other.axis v cut.side) plane.1 ∙ ap (λ s. cut_of other.axis other.value s) sides
 
 pub one_choice : (n k : ℕ) (cuts others : List LeafCut) (tree : Tree) → AreChosen n k cuts tree → AreChosen n k others tree → cuts ≡ others

@@ -81,14 +81,14 @@ module _ (s : FileState) (parent keep gone : ℕ) (may : Joins s parent keep gon
   put_parent = put_instead s.pages parent (Live may.above) (Live new_above) (live_so (page_of s parent) may.above may.above_live)
 
   was_kept : page_at with_parent keep ≡ Some (Live may.kept)
-  was_kept = put_parent.0.others keep (λ e. may.fits.others.0 (sym e)) ∙ live_so (page_of s keep) may.kept may.kept_live
+  was_kept = put_parent.0.others keep (λ e. may.fits.pages.others.0 (sym e)) ∙ live_so (page_of s keep) may.kept may.kept_live
 
   put_kept : HasInstead with_parent keep (Live may.kept) (Live new_kept) with_kept × (length with_kept ≡ length with_parent)
   put_kept = put_instead with_parent keep (Live may.kept) (Live new_kept) was_kept
 
   was_going : page_at with_kept gone ≡ Some (Live may.going)
   was_going =
-      put_kept.0.others gone (λ e. may.fits.two (sym e)) ∙ put_parent.0.others gone (λ e. may.fits.others.1 (sym e))
+      put_kept.0.others gone (λ e. may.fits.pages.two (sym e)) ∙ put_parent.0.others gone (λ e. may.fits.pages.others.1 (sym e))
       ∙ live_so (page_of s gone) may.going may.gone_live
 
   put_free : HasInstead with_kept gone (Live may.going) (Free s.meta.free) after.pages × (length after.pages ≡ length with_kept)
@@ -96,8 +96,8 @@ module _ (s : FileState) (parent keep gone : ℕ) (may : Joins s parent keep gon
 
   pub is_joined : IsJoined s after parent keep gone may.above may.kept may.going new_above new_kept
   is_joined = record {
-    parent_now = put_free.0.others parent may.fits.others.1 ∙ put_kept.0.others parent may.fits.others.0 ∙ put_parent.0.there;
-    keep_now = put_free.0.others keep may.fits.two ∙ put_kept.0.there;
+    parent_now = put_free.0.others parent may.fits.pages.others.1 ∙ put_kept.0.others parent may.fits.pages.others.0 ∙ put_parent.0.there;
+    keep_now = put_free.0.others keep may.fits.pages.two ∙ put_kept.0.there;
     gone_now = put_free.0.there;
     others = λ id ne_parent ne_keep ne_gone. put_free.0.others id ne_gone ∙ put_kept.0.others id ne_keep ∙ put_parent.0.others id ne_parent;
     numbered = put_free.1 ∙ put_kept.1 ∙ put_parent.1;

@@ -38,14 +38,14 @@ pub part_leaves : (n k : ℕ) (cuts : List LeafCut) (tree : Tree) (a : Area) →
 part_leaves n k [] tree a same held c = tt
 part_leaves n k (cut ∷ cuts) tree a same held c =
     let here = subst (λ (t : Tree). All (λ r. Holds a r.key) (records_in t)) c.0.leaf held in
-    let plane = plane_cuts k cut.axis cut.value c.0.records a same here c.0.best.may in
+    let plane = plane_cuts k cut.axis cut.value c.0.records a same here c.0.best.plane.may in
     let on = is_on cut.side cut.axis cut.value in (
       record {
         records = c.0.records;
         leaf = c.0.leaf;
         plane = plane;
-        on = parts k cut.axis cut.value c.0.records c.0.best.may cut.side;
-        off = parts k cut.axis cut.value c.0.records c.0.best.may (other_side cut.side);
+        on = parts k cut.axis cut.value c.0.records c.0.best.plane.may cut.side;
+        off = parts k cut.axis cut.value c.0.records c.0.best.plane.may (other_side cut.side);
       },
       part_leaves n k cuts (going cut tree) (half_area cut a) (side_attributes cut.side cut.axis cut.value a ∙ same)
           (λ i d lt. holds_on cut.side cut.axis cut.value a (get_or (filter on (records_in tree)) i d) plane (All-filter on (λ (r : Record). Holds a r.key) (records_in tree) held i d lt) (filter_passes on (records_in tree) i d lt)) c.1,
@@ -75,14 +75,16 @@ is_allowed n page path cuts full e way ordered c t =
     record {
       inside = g.inside;
       part = t.part;
-      found = t.found;
-      parts = subst (λ (q : Option (Tree × Area)). PartsOf cuts q) t.found (subst (λ (q : Option (Tree × Area)). PartsOf cuts q) (sym c.1) (part_leaves n k cuts c.0.0 c.0.1 end.attributes (records_held n k c.0.0 c.0.1 end) c.2));
-      some = λ none.
-          let bare = subst (λ (x : List LeafCut). AreChosen n k x c.0.0) none.1 c.2 in
-          let whole = subst (λ (x : List Side). part_at x page.frag page.area ≡ Some c.0) none.0 c.1 in
-          let light = subst (Light n) (sym whole) bare in
-          omega (arith, light, e, full);
-      own = λ s. let w = light_tip (reached cuts t.part.0 t.part.1).0 s in omega (arith, w, u, e, full);
+      fits = record {
+        there = t.found;
+        parted = subst (λ (q : Option (Tree × Area)). PartsOf cuts q) t.found (subst (λ (q : Option (Tree × Area)). PartsOf cuts q) (sym c.1) (part_leaves n k cuts c.0.0 c.0.1 end.attributes (records_held n k c.0.0 c.0.1 end) c.2));
+        less = λ none bare.
+            let all = subst (λ (x : List LeafCut). AreChosen n k x c.0.0) bare c.2 in
+            let whole = subst (λ (x : List Side). part_at x page.frag page.area ≡ Some c.0) none c.1 in
+            let light = subst (Light n) (sym whole) all in
+            omega (arith, light, e, full);
+        own = λ s. let w = light_tip (reached cuts t.part.0 t.part.1).0 s in omega (arith, w, u, e, full);
+      };
     }
 
 -- so a page that weighs 6 or more may be split at what is chosen
@@ -95,5 +97,5 @@ chosen_fits meta page path cuts fresh free_after made chosen full allocates =
       allocates = allocates;
       made = made;
       part = may.part;
-      fits = record { there = may.found; parted = may.parts; less = λ none bare. may.some (none, bare); own = may.own };
+      fits = may.fits;
     }

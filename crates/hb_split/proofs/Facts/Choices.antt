@@ -7,7 +7,7 @@ use Rattle.hb_space.specs.declared.records.Record.{Record}
 use Rattle.hb_frag.specs.declared.leaves.Leaf.TheVariants.{Records}
 use Rattle.hb_frag.specs.declared.pages.LivePage.{LivePage}
 use Rattle.hb_frag.specs.declared.paths.Side.{Side}
-use Rattle.hb_frag.specs.declared.paths.Side.TheVariants.{Left, Right}
+use Rattle.hb_frag.specs.declared.paths.Side.TheVariants.{Left}
 use Rattle.hb_frag.specs.Trees.{Tree, Tip}
 use Rattle.hb_frag.specs.Leaves.{weight_of}
 use Rattle.hb_frag.specs.Paths.{part_at}
@@ -15,7 +15,7 @@ use Rattle.hb_frag.specs.Rules.{AreInOrder}
 use Rattle.hb_ops.specs.Cutting.{is_on, records_in}
 use Rattle.hb_ops.specs.declared.leaf_cuts.LeafCut.{LeafCut}
 use Rattle.hb_split.specs.declared.planes.Candidate.{Candidate}
-use Rattle.hb_split.specs.Choosing.{AreChosen, IsChosen, MayCut, NotBehind, count_on, heavier_count, heavier_side, way_down}
+use Rattle.hb_split.specs.Choosing.{AreChosen, IsChosen, MayCut, NotBehind, count_on, fuller_side, heavier_count, way_down}
 use Rattle.hb_split.specs.Steps.{AreOf, BestOf, BestOn}
 use Rattle.hb_split.proofs.Better.{all_new, best_alone, best_stays, other_wins}
 use Rattle.hb_split.proofs.Centers.{some_below}
@@ -103,7 +103,7 @@ module _ (axis : ℕ) (records : List Record) where
     | inl none ↦ (None, λ v may. none v may.met may)
     | inr (w, (may, first)) ↦ (
       Some (record {
-        cut = record { axis = axis; value = w; side = heavier_side (count_on Left axis w records) (count_on Right axis w records) };
+        cut = record { axis = axis; value = w; side = fuller_side axis w records };
         count = heavier_count axis w records;
       }),
       record { axis_of = refl; may = may; first = λ v other. first v other.met other; told = record { count = refl; side = refl } },
@@ -147,7 +147,7 @@ cuts_of n k (suc bound) records full few are = elim (cases_lt (2 * n) (3 * lengt
       let cut = best.0.cut in
       let fewer = next.fewer in
       let rest = cuts_of n k bound (filter (is_on cut.side cut.axis cut.value) records) full (omega (arith, few, fewer)) next.kept in
-      (cut ∷ rest.0, (record { records = records; leaf = refl; heavy = omega (arith, heavy); best = next.best; side = next.side }, rest.1))
+      (cut ∷ rest.0, (record { records = records; leaf = refl; heavy = omega (arith, heavy); best = next.best }, rest.1))
 ]
 
 -- A page of weight 6 or more has a part that is chosen.

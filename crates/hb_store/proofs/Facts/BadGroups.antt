@@ -9,7 +9,7 @@ use Rattle.hb_log_codec.specs.Groups.{Logged, SpellsGroups}
 use Rattle.hb_store.proofs.Facts.Spellings.{OneList}
 use Rattle.hb_store.specs.Replay.{Replayed, MayReplay, replay, untouched}
 use Rattle.hb_store.proofs.Facts.ReplayLaws.{MayReplay-front, replay-append, MayReplay-back}
-use Rattle.hb_store.specs.Opening.{HasBadGroup, IsBadPayload, SpellAll}
+use Rattle.hb_store.specs.Opening.{HasBadGroup, HasGroups, IsBadPayload, SpellAll}
 
 -- ---- where reading stops
 
@@ -68,7 +68,7 @@ module _ (once : OneList) (k : ℕ) where
       omega (arith, rest)
 
   -- frames that are read to an end and replayed, against frames before a bad one
-  pub not_both : (t : Replayed) (ps qs : List (List ℕ)) (r s : List ℕ) (gs hs : List Logged) → frames ps ++ r ≡ frames qs ++ s → All IsPayload ps → All IsPayload qs → IsEnd r → SpellAll k ps gs → SpellAll k qs hs → MayReplay t gs
+  not_both : (t : Replayed) (ps qs : List (List ℕ)) (r s : List ℕ) (gs hs : List Logged) → frames ps ++ r ≡ frames qs ++ s → All IsPayload ps → All IsPayload qs → IsEnd r → SpellAll k ps gs → SpellAll k qs hs → MayReplay t gs
       → IsBadAt k (replay t hs) s → ⊥
   not_both t [] [] r s gs hs e p_fit q_fit end p_spelled q_spelled may bad = no_bad_at_end k (replay t hs) s (subst IsEnd e end) bad
   not_both t [] (q ∷ qs) r s gs hs e p_fit q_fit end p_spelled q_spelled may bad =
@@ -79,6 +79,12 @@ module _ (once : OneList) (k : ℕ) where
       let same = same_front p q p_spelled.0 q_spelled.0 first.0 p_spelled.3 q_spelled.3 in
       not_both (replay t q_spelled.0) ps qs r s p_spelled.1 q_spelled.1 first.1 (All-tail IsPayload p ps p_fit) (All-tail IsPayload q qs q_fit) end p_spelled.4 q_spelled.4
       (may_rest t p_spelled.0 q_spelled.0 p_spelled.1 gs same p_spelled.2 may) (bad_rest t q_spelled.0 q_spelled.0 q_spelled.1 hs s refl q_spelled.2 bad)
+
+-- no group is bad where all may be replayed
+pub no_bad_group : OneList → (bytes : List ℕ) (turn : ℕ) (said : Meta) (payloads : List (List ℕ)) (groups : List Logged) (frame : ℕ) → HasGroups bytes turn said payloads groups → HasBadGroup bytes turn said frame → ⊥
+no_bad_group once bytes turn said payloads groups frame log bad =
+    not_both once said.k (untouched said) payloads bad.before log.framed.rest bad.rest groups bad.groups (sym log.framed.bytes ∙ bad.framed) log.framed.payloads_fit bad.payloads_fit log.framed.at_end
+    log.spelled bad.spelled log.replayed bad.bad
 
 -- no two numbers are that of the first bad group
 pub one_bad_group : OneList → (bytes : List ℕ) (turn : ℕ) (said : Meta) (f g : ℕ) → HasBadGroup bytes turn said f → HasBadGroup bytes turn said g → f ≡ g

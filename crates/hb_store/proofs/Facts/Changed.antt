@@ -9,12 +9,11 @@ use Rattle.hb_layout.specs.declared.meta.Meta.{Meta}
 use Rattle.hb_layout.specs.Offsets.{file_size}
 use Rattle.hb_ops.specs.declared.operations.Op.{Op}
 use Rattle.hb_ops.specs.Files.{if_live}
-use Rattle.hb_ops.specs.Operations.{BoxesMatch, reads_of}
+use Rattle.hb_ops.specs.Operations.{reads_of}
 use Rattle.hb_ops.specs.Sound.{FitsFile}
-use Rattle.hb_log_codec.specs.Groups.{FitsOp}
 use Rattle.hb_store.specs.States.{AreGood, IsGoodPage, IsMemory, IsSameLayout, IsStanding, StoreState, in_memory}
-use Rattle.hb_store.specs.Calls.{IsAllowedHere, change_here, read_here}
-use Rattle.hb_store.specs.Making.{AreReadable, ChangesWell, HaveFittingParts, IsReadable, MakesGoodChanges, MakesGoodPages, PartsFitOnGoodPages}
+use Rattle.hb_store.specs.Calls.{IsAllowedHere}
+use Rattle.hb_store.specs.Making.{AreReadable, HaveFittingParts, IsReadable, MakesGoodChanges, MakesGoodPages, PartsFitOnGoodPages}
 use Rattle.hb_store.specs.Replay.{change_in, touched_read}
 use Rattle.hb_ops.proofs.Facts.PageNumberLaws.{live_so}
 use Rattle.hb_store.specs.Replaying.{ComesAfter, HasLimits, IsPageOf}
@@ -29,7 +28,7 @@ limits_of turn meta stands = record { layout = stands.layout; root_fits = stands
 pub same_size : (old new : Meta) → IsSameLayout old new → file_size new ≡ file_size old
 same_size old new same = λ i. 2 * PAGE + 2 * same.log i + PAGE * same.pages i
 
-still_stands : (turn : ℕ) (old new : Meta) → ComesAfter old new → IsStanding turn old → IsStanding turn new
+pub still_stands : (turn : ℕ) (old new : Meta) → ComesAfter old new → IsStanding turn old → IsStanding turn new
 still_stands turn old new after stands = record {
   turn_fits = stands.turn_fits;
   layout = after.limits.layout;
@@ -98,17 +97,3 @@ good_change makes t op limits good fits allowed match =
 
 pub parts_fit : HaveFittingParts → PartsFitOnGoodPages
 parts_fit parts t op limits good allowed = parts op t.meta (touched_read t op 0) (touched_read t op 1) (touched_read t op 2) limits allowed (reads_readable t.meta t.page good op)
-
--- so is what it makes here well made
-pub changes_well : MakesGoodPages → (st : StoreState) → IsMemory st → (op : Op) → FitsOp st.meta.k op → IsAllowedHere st op → BoxesMatch op (read_here st op 0) (read_here st op 1) (read_here st op 2)
-    → ChangesWell st.turn st.meta (change_here st op)
-changes_well makes st is op fits allowed match =
-    let well = good_change makes (record { meta = st.meta; page = in_memory st }) op (limits_of st.turn st.meta is.stands) is.good fits allowed match in
-    record {
-      layout = well.after.layout;
-      stands = still_stands st.turn st.meta (change_here st op).meta well.after;
-      high = well.after.rises;
-      next = well.next;
-      others = well.others;
-      pages = well.pages;
-    }

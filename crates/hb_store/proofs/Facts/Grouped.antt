@@ -88,7 +88,7 @@ distinct_reads (Post parent at inner area) meta first second third allowed = one
 distinct_reads (Merge parent keep gone) meta None second third allowed = absurd allowed
 distinct_reads (Merge parent keep gone) meta (Some above) None third allowed = absurd allowed
 distinct_reads (Merge parent keep gone) meta (Some above) (Some kept) None allowed = absurd allowed
-distinct_reads (Merge parent keep gone) meta (Some above) (Some kept) (Some going) allowed = three_apart parent keep gone allowed.others.0 allowed.others.1 allowed.two
+distinct_reads (Merge parent keep gone) meta (Some above) (Some kept) (Some going) allowed = three_apart parent keep gone allowed.pages.others.0 allowed.pages.others.1 allowed.pages.two
 distinct_reads (Grow fresh free_after) meta first second third allowed = pairs_none (λ i j. i ≢ j)
 
 small_high : (turn : ℕ) (meta : Meta) → IsStanding turn meta → meta.high < 2 ^ 32

@@ -112,18 +112,18 @@ module _ (same : (t : Tree) → SaysTheSame t (normal t)) (within : WithinCapaci
       let t = with_part way kept.frag going.frag in
       let said = same t in
       let leads = way_leads gone kept.frag kept.area way is in
-      let old = read_tree meta kept has fits.kept_made in
-      let new = read_tree meta going too fits.gone_made in
+      let old = read_tree meta kept has fits.pages.kept_made in
+      let new = read_tree meta going too fits.pages.gone_made in
       let weighs = part_weighs way kept.frag kept.area (Tip (Sibling gone), leads.box) going.frag leads.part in
-      let level : going.level ≡ kept.level = omega (arith, fits.kept_level, fits.gone_level) in
+      let level : going.level ≡ kept.level = omega (arith, fits.pages.kept_level, fits.pages.gone_level) in
       let lighter : weight_of (normal t) ≤ merged_weight kept going = omega (arith, said.weight, weighs) in
       let few = quarter_less (capacity_of kept.level meta.dcap meta.icap) (merged_weight kept going) fits.may.light in
-      let kinds = with_leaves (BelongsAt kept.level) way kept.frag going.frag fits.kept_made.filled.kinds (subst (λ (n : ℕ). All (BelongsAt n) (leaves going.frag)) level fits.gone_made.filled.kinds) in
-      spelled_with meta kept (normal t) limits has fits.kept_made (cuts_normal meta.k t (cuts_with meta.k way kept.frag going.frag (cuts_of meta.k kept.frag old) (cuts_of meta.k going.frag new)))
+      let kinds = with_leaves (BelongsAt kept.level) way kept.frag going.frag fits.pages.kept_made.filled.kinds (subst (λ (n : ℕ). All (BelongsAt n) (leaves going.frag)) level fits.pages.gone_made.filled.kinds) in
+      spelled_with meta kept (normal t) limits has fits.pages.kept_made (cuts_normal meta.k t (cuts_with meta.k way kept.frag going.frag (cuts_of meta.k kept.frag old) (cuts_of meta.k going.frag new)))
       (taken_fit meta.k gone kept going (all_fit meta.k kept.frag old) (all_fit meta.k going.frag new) (Some way)) (record {
         kinds = said.kinds kept.level kinds;
         light = omega (arith, lighter, few);
-        own = λ lone. with_own way kept.frag kept.area (Tip (Sibling gone), leads.box) going.frag leads.part fits.gone_made.filled.own (normal_own t lone);
+        own = λ lone. with_own way kept.frag kept.area (Tip (Sibling gone), leads.box) going.frag leads.part fits.pages.gone_made.filled.own (normal_own t lone);
       })
 
   -- ---- what an allowed operation makes
@@ -136,7 +136,7 @@ module _ (same : (t : Tree) → SaysTheSame t (normal t)) (within : WithinCapaci
       let W : ℕ × Page → Type 0 = λ c. HasSpelling c.1 in
       let last : ℕ × Page = (gone, Free meta.free) in
       let second : ℕ × Page = (keep, Live (kept_page gone kept going)) in
-      All-cons W (parent, Live (parent_page keep gone above)) (second ∷ last ∷ []) (parent_spelled meta keep gone above limits fits.1 (readable.0 above refl) allowed.above_made)
+      All-cons W (parent, Live (parent_page keep gone above)) (second ∷ last ∷ []) (parent_spelled meta keep gone above limits fits.1 (readable.0 above refl) allowed.pages.above_made)
       (All-cons W second (last ∷ []) (kept_spelled meta parent keep gone above kept going limits allowed (readable.1 kept refl) (readable.2 going refl) (sibling_way gone kept.frag) refl)
       (All-cons W last [] (free meta.free limits.free_fits) (All-nil W)))
   writable_pages good (Put id rec) meta first second third limits fits allowed readable = spelled_all (Put id rec) meta first second third (good (Put id rec) meta first second third limits fits allowed readable tt)

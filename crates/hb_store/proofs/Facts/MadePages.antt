@@ -124,9 +124,9 @@ module _ (stand : PartsStand) where
     parts_made (Merge parent keep gone) meta (Some above) None third limits fits allowed readable = absurd allowed
     parts_made (Merge parent keep gone) meta (Some above) (Some kept) None limits fits allowed readable = absurd allowed
     parts_made (Merge parent keep gone) meta (Some above) (Some kept) (Some going) limits fits allowed readable =
-        let top = read_parts meta above (readable.0 above refl) allowed.above_made in
-        let old = read_parts meta kept (readable.1 kept refl) allowed.kept_made in
-        let new = read_parts meta going (readable.2 going refl) allowed.gone_made in
+        let top = read_parts meta above (readable.0 above refl) allowed.pages.above_made in
+        let old = read_parts meta kept (readable.1 kept refl) allowed.pages.kept_made in
+        let new = read_parts meta going (readable.2 going refl) allowed.pages.gone_made in
         let last : ℕ × Page = (gone, Free meta.free) in
         let second : ℕ × Page = (keep, Live (kept_page gone kept going)) in
         All-cons (Parted meta.k) (parent, Live (parent_page keep gone above)) (second ∷ last ∷ [])

@@ -62,9 +62,7 @@ pub opens_elsewhere : (b c : List ℕ) (turn : ℕ) (said : Meta) (payloads : Li
 opens_elsewhere b c turn said payloads groups s opens newest long same_log same_places = record {
   newest = newest;
   fits = omega (arith, opens.fits, long);
-  framed = let Q : List ℕ → Type 0 = λ l. HasFrames l payloads in subst Q (sym same_log) opens.framed;
-  spelled = opens.spelled;
-  replayed = opens.replayed;
+  log = let Q : List ℕ → Type 0 = λ l. HasFrames l payloads in record { framed = subst Q (sym same_log) opens.log.framed; spelled = opens.log.spelled; replayed = opens.log.replayed };
   shows = record {
     meta = opens.shows.meta;
     count = opens.shows.count;
@@ -84,14 +82,16 @@ pub opens_fresh : (c : List ℕ) (turn : ℕ) (meta : Meta) (s : FileState) → 
 opens_fresh c turn meta s newest long zeros meta_is count pages = record {
   newest = newest;
   fits = long;
-  framed = record {
-    payloads_fit = All-nil IsPayload;
-    rest = replicate meta.log 0;
-    bytes = zeros;
-    at_end = end_zeros meta.log;
+  log = record {
+    framed = record {
+      payloads_fit = All-nil IsPayload;
+      rest = replicate meta.log 0;
+      bytes = zeros;
+      at_end = end_zeros meta.log;
+    };
+    spelled = refl;
+    replayed = tt;
   };
-  spelled = refl;
-  replayed = tt;
   shows = record {
     meta = meta_is;
     count = count;

@@ -1,18 +1,15 @@
 -- The steps that the words of a step line say are actors.
-use Rattle.std.specs.Prelude.{◌≡◌, ℕ, zero, suc, ◌≤◌, ◌==◌, List, [], ◌∷◌, replicate, Option, Some, None, refl, codes, if◌then◌else◌}
+use Rattle.std.specs.Prelude.{◌≡◌, ℕ, zero, suc, ◌==◌, List, [], ◌∷◌, replicate, Option, Some, None, refl, codes, if◌then◌else◌}
 use Rattle.std.proofs.Common.{inl, inr, arith, subst}
 use Rattle.std.specs.List.{AllByRecursion, slice_split}
 use Rattle.std.specs.Str.{bytes_eq}
+use Rattle.hb_space.specs.Actors.{IsActor}
 use Rattle.hb_text.specs.Numbers.{number_read}
 use Rattle.hb_text.specs.StepWords.{actor_of, count_number, repeated, steps_of_parts, word_steps, joined_steps, steps_of, session_of}
 use Rattle.hb_lemmas.proofs.Booleans.{chosen}
 use Rattle.std.proofs.lemmas.Option.{same_Some}
 use Rattle.hb_lemmas.proofs.Lists.{whole}
 use Rattle.hb_text.proofs.Facts.LineLaws.{session_fits}
-
--- an actor: 1 to 16 the sessions, then the poster, the consolidator and the flusher
-abbrev pub IsActor : ℕ → Type 0
-IsActor a = (1 ≤ a) × (a ≤ 19)
 
 abbrev pub AreActors : List ℕ → Type 0
 AreActors steps = AllByRecursion IsActor steps
@@ -26,12 +23,12 @@ word_is_actor word a e =
     let f = if bytes_eq word (codes "f") then Some 19 else session_of word in
     let c = if bytes_eq word (codes "c") then Some 18 else f in
     elim (chosen (bytes_eq word (codes "p")) (Some 17) c (Some a) e) [
-      | inl p ↦ let same : 17 ≡ a = same_Some _ _ p.1 in (omega (arith, same), omega (arith, same))
+      | inl p ↦ let same : 17 ≡ a = same_Some _ _ p.1 in record { from_1 = omega (arith, same); to_19 = omega (arith, same) }
       | inr q ↦ elim (chosen (bytes_eq word (codes "c")) (Some 18) f (Some a) q.1) [
-        | inl p ↦ let same : 18 ≡ a = same_Some _ _ p.1 in (omega (arith, same), omega (arith, same))
+        | inl p ↦ let same : 18 ≡ a = same_Some _ _ p.1 in record { from_1 = omega (arith, same); to_19 = omega (arith, same) }
         | inr r ↦ elim (chosen (bytes_eq word (codes "f")) (Some 19) (session_of word) (Some a) r.1) [
-          | inl p ↦ let same : 19 ≡ a = same_Some _ _ p.1 in (omega (arith, same), omega (arith, same))
-          | inr s ↦ let session = session_fits (number_read word) a s.1 in (session.0, omega (arith, session.1))
+          | inl p ↦ let same : 19 ≡ a = same_Some _ _ p.1 in record { from_1 = omega (arith, same); to_19 = omega (arith, same) }
+          | inr s ↦ let session = session_fits (number_read word) a s.1 in record { from_1 = session.0; to_19 = omega (arith, session.1) }
         ]
       ]
     ]

@@ -6,6 +6,7 @@ use Rattle.std.specs.Str.{bytes_eq}
 use Rattle.std.proofs.lemmas.Bool.Decides.{nat_tests}
 use Rattle.std.proofs.lemmas.List.{length-append}
 use Rattle.std.proofs.lemmas.List.Elements.{All-from_recursion}
+use Rattle.hb_space.specs.Actors.{IsActor}
 use Rattle.hb_space.specs.declared.form.TheConstants.{LINE}
 use Rattle.hb_set.specs.declared.commands.Command.{Command}
 use Rattle.hb_text.specs.declared.rules.TextRule.{TextRule}
@@ -17,7 +18,7 @@ use Rattle.hb_text.specs.Words.{words_of, lines_of, is_empty, is_printable}
 use Rattle.hb_lemmas.proofs.Booleans.{chosen}
 use Rattle.hb_lemmas.proofs.Options.{same_Ok}
 use Rattle.hb_text.proofs.Facts.ReadingLaws.{bound, at_line_ok}
-use Rattle.hb_text.proofs.Facts.ActorLaws.{IsActor, AreActors, words_actors}
+use Rattle.hb_text.proofs.Facts.ActorLaws.{AreActors, words_actors}
 use Rattle.hb_lemmas.proofs.Lists.{whole}
 
 -- the steps of a line: actors, within the schedule, and none where step lines aren't allowed

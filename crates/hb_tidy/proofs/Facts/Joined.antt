@@ -18,7 +18,8 @@ use Rattle.hb_core.proofs.Facts.RunDisks.{file_more}
 use Rattle.hb_core.proofs.Facts.RunFaults.{rose_longer}
 use Rattle.hb_core.specs.KeptMachine.{CoreKeeps}
 use Rattle.hb_core.specs.Machines.{Files, Machine}
-use Rattle.hb_core.specs.Runs.{ChangesFile, CountsFaults, HoldsSince, IsPrefixImage}
+use Rattle.hb_core.specs.MomentLaws.{IsPrefixImage}
+use Rattle.hb_core.specs.Runs.{ChangesFile, CountsFaults, HoldsSince}
 use Rattle.hb_core.specs.Showing.{RunningCore}
 use Rattle.hb_core.specs.Working.{MayStep}
 use Rattle.hb_tidy.specs.declared.stops.TidyStop.{TidyStop}
@@ -70,7 +71,7 @@ module _ (d e f : DiskModel) (m : Machine) (mid c : RunningCore) (one : HasTidie
         contents = second.contents ∙ first.contents;
         crashes = record {
           each = Leaves-then d e f (IsPrefixImage n two.new.order 0) (subst (λ (es : List Entry). Leaves d e (IsPrefixImage n es 0)) (sym two.order) first.crashes.each) second.crashes.each;
-          since = All-nil (HoldsSince f n two.new);
+          since = All-nil (HoldsSince f n two.new.order);
         };
       }
 

@@ -9,14 +9,14 @@ returns c s room number =
     let may = c.in_ok-part.ensures.allowed in
     let told = c.does_for_both.ensures in
     let job = c.args.job in
-    let corner = c.corner_of.ensures may.part may.found in
+    let corner = c.corner_of.ensures may.part may.fits.there in
     let jobs = told.jobs ∙ ap (λ (p : List ℕ). record { kind = Post; level = job.level + 1; point = p } ∷ job ∷ []) corner in record {
       leaves = record {
         path = c.in_ok-part.part.path;
         cuts = c.in_ok-part.part.cuts;
         chosen = c.in_ok-part.ensures.exact;
         part = may.part;
-        there = may.found;
+        there = may.fits.there;
         fresh = c.args.fresh;
         free_after = c.args.free_after;
         free = room;

@@ -25,7 +25,7 @@ returns-in_err-owe_postings g c =
     let owed = subst (λ (meta : Meta). IsNotOwed meta c.args.parent.now.page c.args.child.now.page c.in_err-owe_postings.field-0.0) c.meta.ensures c.in_err-owe_postings.ensures.full in
     record {
       looks = over_not_owed c.args.parent.now.id c.args.child.now.id c.args.parent.now.page c.args.child.now.page c.args.area.now c.in_err-owe_postings.field-0.0 c.from_residual-in_err-owe_postings.result _ (g.D.Device.model (core_disk c.args.core.now)) old
-          (g.met.D.Device.is_disk (core_disk c.args.core.now)) c.requires.may (c.requires.known.1 c.in_ok-given.ensures.area).leaf owed c.from_residual-in_err-owe_postings.ensures.1;
+          (g.met.D.Device.is_disk (core_disk c.args.core.now)) c.requires.may (c.requires.known.1 c.in_ok-given.ensures.area).above.leaf owed c.from_residual-in_err-owe_postings.ensures.1;
       fit = λ all. not_ok c.in_err-owe_postings.field-0.0 c.from_residual-in_err-owe_postings.result _ c.from_residual-in_err-owe_postings.ensures.1;
     }
 
@@ -35,7 +35,7 @@ returns g c =
     let added = subst (λ (meta : Meta). HasAdded meta.k (IsPosting meta c.args.parent.now.page c.args.child.now.page c.args.area.now) c.args.jobs.now.items c.owe_postings.new.jobs.items) c.meta.ensures c.in_ok-owe_postings.ensures.added in
     record {
       looks = child_seen c.args.parent.now.id c.args.parent.now.page c.args.child.now.id c.args.child.now.page c.args.area.now c.as_slice.result.now c.args.jobs.now.items c.owe_postings.new.jobs.items c.find_merges.new.jobs.items c.find_merges.result
-          (g.D.Device.model (core_disk c.args.core.now)) (g.D.Device.model (core_disk c.find_merges.new.core)) (core_seen c.args.core.now) (core_seen c.find_merges.new.core) (c.requires.known.1 c.in_ok-given.ensures.area).leaf is c.in_ok-owe_postings.ensures.none added c.find_merges.ensures.looks;
+          (g.D.Device.model (core_disk c.args.core.now)) (g.D.Device.model (core_disk c.find_merges.new.core)) (core_seen c.args.core.now) (core_seen c.find_merges.new.core) (c.requires.known.1 c.in_ok-given.ensures.area).above.leaf is c.in_ok-owe_postings.ensures.none added c.find_merges.ensures.looks;
       fit = λ all. c.find_merges.ensures.fit (added_fit (core_seen c.args.core.now).store.meta.k _ c.args.jobs.now.items c.owe_postings.new.jobs.items added all);
     }
 

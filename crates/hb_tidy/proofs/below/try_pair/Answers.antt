@@ -71,7 +71,7 @@ returns-in_ok-owe_merge-in-Some g c =
     let Unfit : Meta → Type 0 = λ meta. c.owe_merge.new.jobs.items ≡ [] → (c.args.jobs.now.items ≡ []) × (¬ (FitsMerge meta c.args.parent.now.id c.args.keep.now.id c.args.gone c.args.parent.now.page c.args.keep.now.page c.in-Some.page)) in
     let Added : Meta → Type 0 = λ meta. HasAdded meta.k (λ (job : Job). IsAtCorner Merge c.args.parent.now.page c.args.area.now job × FitsMerge meta c.args.parent.now.id c.args.keep.now.id c.args.gone c.args.parent.now.page c.args.keep.now.page c.in-Some.page) c.args.jobs.now.items c.owe_merge.new.jobs.items in
     record {
-      looks = pair_tried c.args.parent.now.id c.args.keep.now.id c.args.parent.now.page c.args.keep.now.page c.args.gone c.args.area.now c.args.jobs.now.items c.owe_merge.new.jobs.items c.in-Some.page d e old new c.requires.known.leaf
+      looks = pair_tried c.args.parent.now.id c.args.keep.now.id c.args.parent.now.page c.args.keep.now.page c.args.gone c.args.area.now c.args.jobs.now.items c.owe_merge.new.jobs.items c.in-Some.page d e old new c.requires.known.above.leaf
           (over_value NothingOf (Some c.in-Some.page) c.named_page.result Was d e old new (ok_is c.named_page.result c.in_ok-page.field-0 (Some c.in-Some.page) c.in_ok-page.was c.in-Some.is) c.named_page.ensures.looks)
           (subst Unfit same c.in_ok-owe_merge-in-Some.ensures.none) (subst Added same c.in_ok-owe_merge-in-Some.ensures.added);
       fit = λ all. added_fit old.store.meta.k _ c.args.jobs.now.items c.owe_merge.new.jobs.items (subst Added same c.in_ok-owe_merge-in-Some.ensures.added) all;

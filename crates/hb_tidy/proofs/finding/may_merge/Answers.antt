@@ -4,7 +4,7 @@ use Rattle.hb_tidy.proofs.OwedRoom.{fit_three, three_fit}
 use Rattle.hb_tidy.proofs.finding.may_merge.Goals as goal
 
 pub plans_merge-requires : goal.plans_merge-requires
-plans_merge-requires c = let stands = c.requires.1.stands in record { layout = c.requires.1.layout; parent_made = stands.above_made; keep_made = stands.below_made; going_made = c.requires.1.made }
+plans_merge-requires c = let stands = c.requires.1.stands in record { layout = c.requires.1.layout; parent_made = stands.above.made; keep_made = stands.below_made; going_made = c.requires.1.made }
 
 pub returns-then-may_be_three : goal.returns-then-may_be_three
 returns-then-may_be_three c = (

@@ -11,7 +11,7 @@ pub may_merge-requires : goal.may_merge-requires
 may_merge-requires c = (c.args.area.now, c.requires)
 
 pub owe_job-requires : goal.owe_job-requires
-owe_job-requires c = let stands = c.requires.stands in (c.args.keep.now.id, record { made = stands.above_made; whole = stands.above_area; leaf = stands.leaf })
+owe_job-requires c = (c.args.keep.now.id, c.requires.stands.above)
 
 pub returns-then-may_merge-clause-added : goal.returns-then-may_merge-clause-added
 returns-then-may_merge-clause-added c =

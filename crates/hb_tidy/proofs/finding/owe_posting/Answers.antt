@@ -31,8 +31,8 @@ returns c =
     record {
       added = added_one c.args.leaf.now.meta.now.k _ _ _ _ c.in_ok-add_job.ensures.added
           (record {
-            level = above_records c.args.leaf.now.meta.now c.args.leaf.now.parent.now name c.args.leaf.now.area.now stands.above_made stands.leaf;
-            point = ap (λ (p : List ℕ). length p) c.copy.ensures ∙ c.requires.held.same ∙ leaf_attributes c.args.leaf.now.meta.now c.args.leaf.now.parent.now name c.args.leaf.now.area.now stands.above_made stands.leaf;
+            level = above_records c.args.leaf.now.meta.now c.args.leaf.now.parent.now name c.args.leaf.now.area.now stands.above.made stands.above.leaf;
+            point = ap (λ (p : List ℕ). length p) c.copy.ensures ∙ c.requires.held.same ∙ leaf_attributes c.args.leaf.now.meta.now c.args.leaf.now.parent.now name c.args.leaf.now.area.now stands.above.made stands.above.leaf;
           })
           (record {
             kind = refl;

@@ -8,7 +8,6 @@ use Rattle.hb_outside.specs.Calls.{SinkModel}
 use Rattle.hb_space.specs.Actors.{IsActor}
 use Rattle.hbpi.proofs.CoreEnds.{core_beyond, core_ends}
 use Rattle.hbpi.proofs.RunsOf.{runs_form}
-use Rattle.hbpi.proofs.StepsTaken.{are_actors}
 use Rattle.hbpi.proofs.TextEnds.{RanText, text_core}
 use Rattle.hbpi.proofs.Turned.{turned}
 use Rattle.hbpi.specs.Driven.{by_schedule}
@@ -23,7 +22,7 @@ exactly steps actors after = actors ≡ steps
 pub drive-requires-clause-actors : goal.drive-requires-clause-actors
 drive-requires-clause-actors g c =
     let made = c.in-Ok.ensures.has.started.made in
-    subst (λ (steps : List ℕ). All IsActor steps) (sym (ap (λ (r : RunningCore). r.steps) made.core_is)) (are_actors made.steps made.script.actors)
+    subst (λ (steps : List ℕ). All IsActor steps) (sym (ap (λ (r : RunningCore). r.steps) made.core_is)) made.script.actors
 
 pub returns-in-Ok : goal.returns-in-Ok
 returns-in-Ok g c =
