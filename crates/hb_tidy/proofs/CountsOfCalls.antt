@@ -36,9 +36,6 @@ module _ (c : RunningCore) (within : CountsWithin c) where
   counted_rises actor new (inl (none, done)) = subst (λ (x : TidyCounts). AreAtMost c.done x) (sym done) (done_same c.done)
   counted_rises actor new (inr (op, did, done)) = subst (λ (x : TidyCounts). AreAtMost c.done x) (sym done) (op_rises actor op)
 
-with_all : (old new : RunningCore) → old.taken ≤ new.taken → AreAtMost old.done new.done → CountsWithin new → new.store.meta.height + old.done.grown ≡ old.store.meta.height + new.done.grown → LiveIsCounted old new → CountsRise old new
-with_all old new taken done within height live = record { taken = taken; grown = done.grown; posted = done.posted; split = done.split; merged = done.merged; within = within; height = height; live = live }
-
 some_left : (grown taken : ℕ) → grown ≤ taken → taken < 2 ^ 64 - 1 → grown + 1 ≤ 2 ^ 64 - 1
 some_left grown taken few left = omega (arith, few, left)
 
@@ -51,9 +48,13 @@ later_taken taken next left is = omega (arith, left, is)
 -- a step, a flush, and a call that counts nothing
 pub step_rises : CountsStayWithin → HeightIsCounted → (actor : ℕ) (old new : RunningCore) → CountsStep actor old new → CountsWithin old → old.taken < 2 ^ 64 - 1 → LiveIsCounted old new → CountsRise old new
 step_rises laws height actor old new step within left live =
-    with_all old new (later_taken old.taken new.taken left step.taken) (counted_rises old within actor new step.done) (laws.step actor old new step within)
-    (height actor old new step (some_left old.done.grown old.taken within.grown left))
-    live
+    record {
+      taken = later_taken old.taken new.taken left step.taken;
+      done = counted_rises old within actor new step.done;
+      within = laws.step actor old new step within;
+      height = height actor old new step (some_left old.done.grown old.taken within.grown left);
+      live = live;
+    }
 
 same_height : (old new : RunningCore) → new.store.meta ≡ old.store.meta → new.done ≡ old.done → new.store.meta.height + old.done.grown ≡ old.store.meta.height + new.done.grown
 same_height old new meta done =
@@ -63,15 +64,23 @@ same_height old new meta done =
 
 pub flush_rises : CountsStayWithin → (old new : RunningCore) → CountsFlush old new → CountsWithin old → old.taken < 2 ^ 64 - 1 → CountsRise old new
 flush_rises laws old new flush within left =
-    with_all old new (later_taken old.taken new.taken left flush.taken) (subst (λ (x : TidyCounts). AreAtMost old.done x) (sym flush.done) (done_same old.done)) (laws.flush old new flush within)
-    (same_height old new flush.no_op.meta flush.done)
-    (live_same old new flush.no_op.meta flush.done)
+    record {
+      taken = later_taken old.taken new.taken left flush.taken;
+      done = subst (λ (x : TidyCounts). AreAtMost old.done x) (sym flush.done) (done_same old.done);
+      within = laws.flush old new flush within;
+      height = same_height old new flush.no_op.meta flush.done;
+      live = live_same old new flush.no_op.meta flush.done;
+    }
 
 pub stay_rises : CountsStayWithin → (old new : RunningCore) → CountsStay old new → new.store.meta ≡ old.store.meta → CountsWithin old → CountsRise old new
 stay_rises laws old new stay meta within =
-    with_all old new (let t = stay.taken in omega (arith, t)) (subst (λ (x : TidyCounts). AreAtMost old.done x) (sym stay.done) (done_same old.done)) (laws.stay old new stay within)
-    (same_height old new meta stay.done)
-    (live_same old new meta stay.done)
+    record {
+      taken = let t = stay.taken in omega (arith, t);
+      done = subst (λ (x : TidyCounts). AreAtMost old.done x) (sym stay.done) (done_same old.done);
+      within = laws.stay old new stay within;
+      height = same_height old new meta stay.done;
+      live = live_same old new meta stay.done;
+    }
 
 pub same_rises : (c : RunningCore) → CountsWithin c → CountsRise c c
-same_rises c within = with_all c c (le_refl c.taken) (done_same c.done) within refl (live_same c c refl refl)
+same_rises c within = record { taken = le_refl c.taken; done = done_same c.done; within = within; height = refl; live = live_same c c refl refl }

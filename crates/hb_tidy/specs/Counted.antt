@@ -6,6 +6,13 @@ use Rattle.hb_core.specs.Showing.{RunningCore}
 use Rattle.hb_tidy.specs.declared.stops.TidyStop.{TidyStop}
 use Rattle.hb_tidy.specs.declared.stops.TidyStop.TheVariants as stops
 
+-- counts of operations that are no less than others
+pub record AreAtMost (old new : TidyCounts) : Type 0 where
+  pub grown : old.grown ≤ new.grown
+  pub posted : old.posted ≤ new.posted
+  pub split : old.split ≤ new.split
+  pub merged : old.merged ≤ new.merged
+
 -- Pages in use rise by growths and splits, and fall by merges.
 abbrev pub LiveIsCounted : RunningCore → RunningCore → Type 0
 LiveIsCounted old new = new.store.meta.live + new.done.merged + (old.done.grown + old.done.split) ≡ old.store.meta.live + old.done.merged + (new.done.grown + new.done.split)
@@ -13,10 +20,7 @@ LiveIsCounted old new = new.store.meta.live + new.done.merged + (old.done.grown 
 -- No count falls. The file's height rises by the growths that were counted, and its pages in use by what was made and merged.
 pub record CountsRise (old new : RunningCore) : Type 0 where
   pub taken : old.taken ≤ new.taken
-  pub grown : old.done.grown ≤ new.done.grown
-  pub posted : old.done.posted ≤ new.done.posted
-  pub split : old.done.split ≤ new.done.split
-  pub merged : old.done.merged ≤ new.done.merged
+  pub done : AreAtMost old.done new.done
   pub within : CountsWithin new
   pub height : new.store.meta.height + old.done.grown ≡ old.store.meta.height + new.done.grown
   pub live : LiveIsCounted old new
@@ -25,12 +29,6 @@ pub record CountsRise (old new : RunningCore) : Type 0 where
 abbrev pub EndsSpent : {T : Type 0} → Result T TidyStop → RunningCore → Type 0
 EndsSpent result c = MatchResult result (λ v. c.taken < 2 ^ 64 - 1) (λ stop. (stop ≡ stops.Spent) ↔ (c.taken ≡ 2 ^ 64 - 1))
 
--- counts of operations that are no less than others, and counts with others added
-pub record AreAtMost (old new : TidyCounts) : Type 0 where
-  pub grown : old.grown ≤ new.grown
-  pub posted : old.posted ≤ new.posted
-  pub split : old.split ≤ new.split
-  pub merged : old.merged ≤ new.merged
-
+-- counts with others added
 abbrev pub added : TidyCounts → TidyCounts → TidyCounts
 added old more = record { grown = old.grown + more.grown; posted = old.posted + more.posted; split = old.split + more.split; merged = old.merged + more.merged }

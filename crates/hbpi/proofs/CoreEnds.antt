@@ -3,7 +3,7 @@ use Rattle.std.proofs.Common.{◌≡◌, ◌≢◌, inl, inr, ℕ, List, [], ref
 use Rattle.hb_core.specs.Machines.{Machine}
 use Rattle.hb_core.specs.Runs.{HasRun}
 use Rattle.hb_core.specs.Showing.{RunningCore}
-use Rattle.hb_core.specs.Relied.{MayTakeSteps}
+use Rattle.hb_core.specs.Relied.{MayRun, MayTakeSteps}
 use Rattle.hb_core.specs.Working.{MayStep}
 use Rattle.hb_core.specs.declared.endings.End.TheVariants as ends
 use Rattle.hb_disk.specs.Model.{DiskModel}

@@ -222,8 +222,8 @@ dry_source k seen Full ends other = absurd ends
 dry_source k seen Spent ends other = absurd ends
 
 create_source : (fault : Option BadField) (needed : ℕ) (run : Run) (status : Status) → CreateEnds fault needed run status → run.seen.source_after.faults ≡ run.seen.source_before.faults
-create_source fault needed run Done ends = ends.0.unread.faults
-create_source fault needed run SinkFault ends = ends.0.unread.faults
+create_source fault needed run Done ends = ends.0.alone.unread.faults
+create_source fault needed run SinkFault ends = ends.0.alone.unread.faults
 create_source fault needed run (BadLayout field value) ends = ends.2.faults
 create_source fault needed run (Small wanted found) ends = ends.3.unread.faults
 create_source fault needed run DiskFault ends = ends.2.unread.faults
@@ -245,19 +245,19 @@ steps_source by run status ends other = elim ends [
 ]
 
 pub check_source : (run : Run) (status : Status) → CheckEnds run status → run.seen.source_after.faults ≡ run.seen.source_before.faults
-check_source run status ends = elim ends [ inl shut ↦ shut.2.unread.faults | inr checked ↦ checked.2.unread.faults ]
+check_source run status ends = elim ends [ inl shut ↦ shut.2.unread.faults | inr checked ↦ checked.2.alone.unread.faults ]
 
 pub tidy_source : (run : Run) (status : Status) → TidyEnds run status → run.seen.source_after.faults ≡ run.seen.source_before.faults
 tidy_source run status ends = elim ends [
   | inl shut ↦ shut.2.unread.faults
   | inr opened ↦ elim opened [
     | inl away ↦ ap (λ (m : SourceModel). m.faults) away.why.1
-    | inr tidied ↦ tidied.2.unread.faults
+    | inr tidied ↦ tidied.2.alone.unread.faults
   ]
 ]
 
 pub map_source : (run : Run) (status : Status) → MapEnds run status → run.seen.source_after.faults ≡ run.seen.source_before.faults
-map_source run status ends = elim ends [ inl shut ↦ shut.2.unread.faults | inr mapped ↦ mapped.2.1.unread.faults ]
+map_source run status ends = elim ends [ inl shut ↦ shut.2.unread.faults | inr mapped ↦ mapped.2.1.alone.unread.faults ]
 
 pub gen_source : (text : List ℕ) (seen : Seen) (status : Status) → GenEnds text seen status → seen.source_after.faults ≡ seen.source_before.faults
 gen_source text seen status ends = elim ends [ inl refused ↦ refused.2.faults | inr said ↦ said.0.unread.faults ]

@@ -17,7 +17,7 @@ use Rattle.hb_store.specs.declared.stops.Why.TheVariants.{Rule, Level, Extent}
 use Rattle.hbpi.proofs.ReadFurther.{leaves_further, opens_further, runs_further}
 use Rattle.hbpi.specs.Mapped.{GetsFront, IsMapText, MapEnds, MapsWith, map_status}
 use Rattle.hbpi.specs.Outcome.{GetsLine, fault_line}
-use Rattle.hbpi.specs.SeenRuns.{IsUnread, Seen, run_of}
+use Rattle.hbpi.specs.SeenRuns.{IsAlone, Seen, run_of}
 use Rattle.hbpi.specs.declared.statuses.Status.{Status}
 use Rattle.hbpi.specs.declared.statuses.Status.TheVariants.{Done, SinkFault, DiskFault, NoMemory}
 
@@ -48,9 +48,7 @@ pub record PutMap (result : Result (Unit {0}) MapStop) (d m e : DiskModel) (old 
   pub line : GetsLine mid seen.sink_after (fault_line (map_status result))
   pub silent : map_status result ≡ SinkFault → seen.sink_after ≡ mid
   pub silent_done : map_status result ≡ Done → seen.sink_after ≡ mid
-  pub unread : IsUnread seen
-  pub none_answered : seen.answered ≡ []
-  pub none_ordered : seen.order ≡ []
+  pub alone : IsAlone seen
 
 module _ (d m e : DiskModel) (old new : StoreHeld) (count : ℕ) (seen : Seen) (mid : SinkModel) where
   -- a front of the text with the fault line behind it
@@ -109,20 +107,21 @@ module _ (d m e : DiskModel) (old new : StoreHeld) (count : ℕ) (seen : Seen) (
       subst (λ (s : Status). MapEnds (run_of seen d e) s) (sym is) (inr (
         old.state,
         text.0,
-        (count, record {
-          opens = opens_further d m e old.state count only facts.opens;
-          through = runs_further old.state.meta.high d m e only.stays facts.through;
-          leaves = record {
-            even = further.even;
-            late = further.late;
-            once = further.once;
-            beyond = further.beyond;
-            faults = record { cause = λ at. further.faults.cause (of_disk result at); no_fault = λ fine. further.faults.no_fault (λ failed. fine (to_disk result failed)); reads = further.faults.reads; writes = further.faults.writes };
-          };
-          unread = facts.unread;
-          none_answered = facts.none_answered;
-          none_ordered = facts.none_ordered;
-        }),
+        (
+          count,
+          record {
+            opens = opens_further d m e old.state count only facts.opens;
+            through = runs_further old.state.meta.high d m e only.stays facts.through;
+            leaves = record {
+              even = further.even;
+              late = further.late;
+              once = further.once;
+              beyond = further.beyond;
+              faults = record { cause = λ at. further.faults.cause (of_disk result at); no_fault = λ fine. further.faults.no_fault (λ failed. fine (to_disk result failed)); reads = further.faults.reads; writes = further.faults.writes };
+            };
+            alone = facts.alone;
+          },
+        ),
         text.1,
         maps_with result text.0 facts text.2,
       ))

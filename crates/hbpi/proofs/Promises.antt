@@ -60,8 +60,8 @@ nothing_done origin s run status sound pages none_answered none_ordered leaves l
       numbers = none_ordered;
       said = inl refl;
       legal = record { replies = tt; sessions = tt };
-      replied = let Q : List Answered → Type 0 = λ a. All (StandsSomewhere []) a in subst Q (sym none_answered) (All-nil _);
-      held = let Q : List Answered → Type 0 = λ a. All (HoldsSince run.after (contents_of s) []) a in subst Q (sym none_answered) (All-nil _);
+      replied = let Q : List Answered → Type 0 = λ a. All (StandsSomewhere []) a in subst Q (sym none_answered) (All-nil (StandsSomewhere []));
+      held = let Q : List Answered → Type 0 = λ a. All (HoldsSince run.after (contents_of s) []) a in subst Q (sym none_answered) (All-nil (HoldsSince run.after (contents_of s) []));
       crashes = λ even. Leaves-weaker run.before run.after (λ c. OpensTo c s) P weaker (leaves even);
       late = λ later. let here = late later in record { since = here.since; soon = here.soon; each = λ c left. weaker c (here.each c left) };
       even = λ is. absurd (undone is);

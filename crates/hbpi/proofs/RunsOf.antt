@@ -54,5 +54,5 @@ check_runs M seen old new status ends =
 
 pub map_runs : {X : Type 0} (M : X → DiskModel) (seen : Seen) (old new : X) (status : Status) → MapEnds (run_of seen (M old) (M new)) status → RunsForm M (Some Map) seen old new status
 map_runs M seen old new status ends =
-    let beyond : KeepsBeyondFile (M old) (M new) = elim ends [ inl shut ↦ shut.2.leaves.beyond | inr mapped ↦ mapped.2.leaves.beyond ] in
+    let beyond : KeepsBeyondFile (M old) (M new) = elim ends [ inl shut ↦ shut.2.leaves.beyond | inr mapped ↦ mapped.2.1.leaves.beyond ] in
     runs_form M (Some Map) seen old new status ends tt beyond (λ leaves. absurd leaves)

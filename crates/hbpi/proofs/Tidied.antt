@@ -27,7 +27,7 @@ use Rattle.hb_tidy.specs.declared.stops.TidyStop.TheVariants as tidies
 use Rattle.hbpi.proofs.Begins.{IsBegunHere}
 use Rattle.hbpi.proofs.Opened.{IsOpening, even_store, from_before, late_before, since_start, tells_behind}
 use Rattle.hbpi.proofs.Reopened.{counts_before, no_line_yet, pages_of}
-use Rattle.hbpi.specs.SeenRuns.{IsUnread, Seen, run_of}
+use Rattle.hbpi.specs.SeenRuns.{IsAlone, Seen, run_of}
 use Rattle.hbpi.specs.Starts.{StartLaws}
 use Rattle.hbpi.specs.Tidied.{GrewBy, HasContents, HasSameRecords, IsTidied, LeavesTidied}
 use Rattle.hbpi.specs.TidyRuns.{EndsForced, FilesTidied, TidiesFile, TidyWhy}
@@ -122,16 +122,14 @@ module _ (laws : StartLaws) (d first last : DiskModel) (store : StoreState) (lin
   why_before (Err tidies.Spent) why = why
   why_before (Err tidies.NoMemory) why = why
 
-  pub tidies_file : (seen : Seen) → lines ≡ [] → IsUnread seen → seen.answered ≡ [] → seen.order ≡ [] → TidiesFile (run_of seen d last) went.new result
-  tidies_file seen none unread answered order = record {
+  pub tidies_file : (seen : Seen) → lines ≡ [] → IsAlone seen → TidiesFile (run_of seen d last) went.new result
+  tidies_file seen none alone = record {
     before = m;
     begun = here.begun;
     opened = subst (λ (st : StoreState). IsNew st.turn st.meta st) (sym here.may.shows.store) new;
     no_line = here.may.shows.lines ∙ none;
     no_order = no_order;
-    unread = unread;
-    none_answered = answered;
-    none_ordered = order;
+    alone = alone;
     faults = counts_before d first last [] None went.new.stop opening (subst (λ (why : Option StopWhy). CountsFaults first last [] why went.new.stop) here.begun.runs went.faults);
     why = why_before result forced.why;
     told = left_before;

@@ -19,7 +19,7 @@ use Rattle.hbpi.proofs.CoreEnds.{begins_here, may_core}
 use Rattle.hbpi.proofs.Opened.{IsOpening, is_opening}
 use Rattle.hbpi.proofs.StepsTaken.{run_beyond}
 use Rattle.hbpi.proofs.Tidied.{tidies_file}
-use Rattle.hbpi.specs.SeenRuns.{IsUnread, Seen, run_of, seen_by}
+use Rattle.hbpi.specs.SeenRuns.{IsAlone, Seen, run_of, seen_by}
 use Rattle.hbpi.specs.Starts.{IsStarted, StartLaws}
 use Rattle.hbpi.specs.Tidied.{nobody}
 use Rattle.hbpi.specs.TidyRuns.{EndsForced, SaysTidied, TidyEnds, TidiesFile}
@@ -60,13 +60,17 @@ module _ {X : Type 0} (M : X → DiskModel) (first over last : X) (core ran : Ru
   no_order : order ≡ []
   no_order = facts.order_is ∙ sym went.0.shows.order ∙ ap (map (λ (e : Entry). e.line.number)) (went.0.order ∙ here.1.begun.no_order)
 
-  unread : IsUnread seen
-  unread = let same = started.made.came.2 in record { rest = ap (λ (m : SourceModel). m.left) same; faults = ap (λ (m : SourceModel). m.faults) same }
+  alone : IsAlone seen
+  alone = record {
+    unread = let same = started.made.came.2 in record { rest = ap (λ (m : SourceModel). m.left) same; faults = ap (λ (m : SourceModel). m.faults) same };
+    none_answered = facts.none_answered;
+    none_ordered = no_order;
+  }
 
   pub tidied_ends : TidyEnds (run_of seen d (M last)) status
   tidied_ends =
       let file : TidiesFile (run_of seen d (M over)) went.0.new result =
-      tidies_file laws d (M first) (M over) started.store started.made.lines started.made.steps ran result opening started.opens.is_new here.0 here.1 went.0 went.1 seen (started.made.came.0 ∙ no_lines started.store.meta.k) unread facts.none_answered no_order in
+      tidies_file laws d (M first) (M over) started.store started.made.lines started.made.steps ran result opening started.opens.is_new here.0 here.1 went.0 went.1 seen (started.made.came.0 ∙ no_lines started.store.meta.k) alone in
       inr (inr (went.0.new, result, subst (λ (x : X). TidiesFile (run_of seen d (M x)) went.0.new result) (sym facts.disk_is) file, facts.said))
 
   -- what lies behind the file is as it was

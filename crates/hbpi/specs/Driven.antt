@@ -15,7 +15,7 @@ use Rattle.hb_store.specs.States.{StoreState}
 use Rattle.hbpi.specs.Codes.{status_of}
 use Rattle.hbpi.specs.Counted.{HasRecords, counts_text}
 use Rattle.hbpi.specs.Schedules.{CameNot}
-use Rattle.hbpi.specs.SeenRuns.{IsRefused, IsUnread, Run}
+use Rattle.hbpi.specs.SeenRuns.{IsAlone, IsRefused, IsUnread, Run}
 use Rattle.hbpi.specs.declared.origins.Origin.{Origin}
 use Rattle.hbpi.specs.declared.origins.Origin.TheVariants.{Text, Drawn}
 use Rattle.hbpi.specs.declared.statuses.Status.{Status}
@@ -33,9 +33,7 @@ pub record OnlyOpens (failed : Type 0) (run : Run) (store : StoreState) (records
   pub opens : OpensStore run.before run.after store records
   pub through : RunsThrough store.meta.high run.before run.after
   pub leaves : LeavesOpening failed run.before run.after
-  pub unread : IsUnread run.seen
-  pub none_answered : run.seen.answered ≡ []
-  pub none_ordered : run.seen.order ≡ []
+  pub alone : IsAlone run.seen
 
 -- A file of so many attributes was opened, and nothing else was done to the disk.
 pub record IsOpened (k : ℕ) (old new : DiskModel) : Type 0 where

@@ -12,7 +12,7 @@ use Rattle.hbpi.specs.declared.statuses.Status.TheVariants.{Done, Usage, BadText
 use Rattle.hbpi.specs.Created.{IsUnmade}
 use Rattle.hbpi.specs.Outcome.{IsTextOf, IsWholeText, IsDryRun}
 use Rattle.hbpi.specs.Saying.{IsSaid}
-use Rattle.hbpi.specs.SeenRuns.{Seen, IsRefused, IsUnread}
+use Rattle.hbpi.specs.SeenRuns.{Seen, IsAlone, IsRefused, IsUnread}
 
 -- the text was read whole and with no fault, says these lines, and they were answered
 pub record IsAnswered (k : ℕ) (seen : Seen) (lines : List Line) : Type 0 where
@@ -47,11 +47,6 @@ UsageEnds seen Usage = IsRefused seen Usage × IsUnread seen
 UsageEnds seen _ = ⊥
 
 -- A text was said, or a front of it where the sink failed; or memory for it was refused. Nothing was read.
-pub record IsAlone (seen : Seen) : Type 0 where
-  pub unread : IsUnread seen
-  pub none_answered : seen.answered ≡ []
-  pub none_ordered : seen.order ≡ []
-
 abbrev pub GenEnds : List ℕ → Seen → Status → Type 0
 GenEnds text seen status = ((status ≡ NoMemory) × IsRefused seen NoMemory × IsUnread seen) ⊎ (IsAlone seen × IsSaid text seen.sink_before seen.sink_after status)
 

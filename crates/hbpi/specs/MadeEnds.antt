@@ -1,5 +1,5 @@
 -- What each status says of a run of `create`.
-use Rattle.std.specs.Prelude.{◌≡◌, ℕ, ◌<◌, ◌≤◌, ◌⊎◌, [], codes, Option, Some, None}
+use Rattle.std.specs.Prelude.{◌≡◌, ℕ, ◌<◌, ◌≤◌, ◌⊎◌, codes, Option, Some, None}
 use Rattle.hb_outside.specs.Streams.{Rose, Appends, AppendsFront}
 use Rattle.hbpi.specs.declared.forms.Form.{Form}
 use Rattle.hbpi.specs.declared.forms.Form.TheVariants.{Create}
@@ -7,16 +7,14 @@ use Rattle.hbpi.specs.declared.statuses.Status.{Status}
 use Rattle.hbpi.specs.declared.statuses.Status.TheVariants.{Done, Usage, BadText, SourceFault, SinkFault, DiskFault, Damaged, NoMemory, BadLayout, Small, Full, Spent}
 use Rattle.hb_restart.specs.declared.faults.BadField.{BadField}
 use Rattle.hb_restart.specs.Layouts.{first_fault, size_of}
-use Rattle.hbpi.specs.SeenRuns.{HasNotFailed, IsRefused, IsUnread, Run}
+use Rattle.hbpi.specs.SeenRuns.{HasNotFailed, IsAlone, IsRefused, IsUnread, Run}
 
 -- a file was made: its layout is within the limits, and the disk has room for it
 pub record EndsMaking (fault : Option BadField) (needed : ℕ) (run : Run) : Type 0 where
   pub good : fault ≡ None
   pub large : needed ≤ run.before.size
   pub faults : HasNotFailed run
-  pub unread : IsUnread run.seen
-  pub none_answered : run.seen.answered ≡ []
-  pub none_ordered : run.seen.order ≡ []
+  pub alone : IsAlone run.seen
 
 -- making a file was refused behind the test of the layout
 pub record IsNotMade (fault : Option BadField) (run : Run) (status : Status) : Type 0 where

@@ -46,6 +46,12 @@ pub record IsUnread (seen : Seen) : Type 0 where
   pub rest : seen.source_after.left ≡ seen.source_before.left
   pub faults : seen.source_after.faults ≡ seen.source_before.faults
 
+-- nor was any command done
+pub record IsAlone (seen : Seen) : Type 0 where
+  pub unread : IsUnread seen
+  pub none_answered : seen.answered ≡ []
+  pub none_ordered : seen.order ≡ []
+
 -- no call of the disk failed, and some call did
 pub record HasNotFailed (run : Run) : Type 0 where
   pub reads : run.after.read_faults ≡ run.before.read_faults

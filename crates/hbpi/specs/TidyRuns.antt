@@ -23,7 +23,7 @@ use Rattle.hbpi.specs.Driven.{IsShutOut, IsTurnedAway}
 use Rattle.hbpi.specs.Codes.{status_of, tidy_status}
 use Rattle.hbpi.specs.Outcome.{GetsLine, fault_line}
 use Rattle.hbpi.specs.Saying.{IsSaid}
-use Rattle.hbpi.specs.SeenRuns.{IsUnread, Run}
+use Rattle.hbpi.specs.SeenRuns.{IsAlone, Run}
 use Rattle.hbpi.specs.declared.statuses.Status.{Status}
 use Rattle.hb_tidy.specs.Working.{DropsAtEnd, Event, WorksOff, steps_in}
 use Rattle.hbpi.specs.Tidied.{GrewBy, LeavesTidied, nobody, tidied_text}
@@ -67,9 +67,7 @@ pub record TidiesFile (run : Run) (after : Machine) (result : Result TidyCounts 
   pub opened : IsNew before.store.turn before.store.meta before.store
   pub no_line : before.lines ≡ []
   pub no_order : after.order ≡ []
-  pub unread : IsUnread run.seen
-  pub none_answered : run.seen.answered ≡ []
-  pub none_ordered : run.seen.order ≡ []
+  pub alone : IsAlone run.seen
   pub faults : CountsFaults run.before run.after [] None after.stop
   pub why : TidyWhy run.before run.after before after result
   pub told : IfSome run.before.told (λ b. (s : FileState) × OpensTo b s × IsSound s × IsBegunOver before s × LeavesTidied s run.before run.after result)

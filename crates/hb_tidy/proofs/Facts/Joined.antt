@@ -127,22 +127,19 @@ pub rise_then : (a b c : RunningCore) → CountsRise a b → CountsRise b c → 
 rise_then a b c one two =
     let t1 = one.taken in
     let t2 = two.taken in
-    let g1 = one.grown in
-    let g2 = two.grown in
-    let p1 = one.posted in
-    let p2 = two.posted in
-    let s1 = one.split in
-    let s2 = two.split in
-    let m1 = one.merged in
-    let m2 = two.merged in
+    let g1 = one.done.grown in
+    let g2 = two.done.grown in
+    let p1 = one.done.posted in
+    let p2 = two.done.posted in
+    let s1 = one.done.split in
+    let s2 = two.done.split in
+    let m1 = one.done.merged in
+    let m2 = two.done.merged in
     let h1 = one.height in
     let h2 = two.height in
     record {
       taken = omega (arith, t1, t2);
-      grown = omega (arith, g1, g2);
-      posted = omega (arith, p1, p2);
-      split = omega (arith, s1, s2);
-      merged = omega (arith, m1, m2);
+      done = record { grown = omega (arith, g1, g2); posted = omega (arith, p1, p2); split = omega (arith, s1, s2); merged = omega (arith, m1, m2) };
       within = two.within;
       height = omega (arith, h1, h2);
       live = live_then a b c one.live two.live;

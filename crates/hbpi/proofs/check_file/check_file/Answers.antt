@@ -20,9 +20,7 @@ returns-in-Ok g c source =
         opens = c.in-Ok.ensures.opened;
         through = c.in-Ok.ensures.through;
         leaves = c.in-Ok.ensures.leaves;
-        unread = record { rest = refl; faults = refl };
-        none_answered = c.new.ensures.items;
-        none_ordered = c.new-in-Ok.ensures.items;
+        alone = record { unread = record { rest = refl; faults = refl }; none_answered = c.new.ensures.items; none_ordered = c.new-in-Ok.ensures.items };
       },
       subst (λ (line : List ℕ). IsSaid line (g.K.Sink.model c.args.sink) (g.K.Sink.model c.say-status.new.sink) c.say-status.result) said c.say-status.ensures,
     )))

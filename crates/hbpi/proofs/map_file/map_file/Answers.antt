@@ -31,9 +31,7 @@ returns-in-Ok g c source =
       line = subst (λ (s : Status). GetsLine (g.K.Sink.model c.put_map.new.sink) (g.K.Sink.model c.put_fault.new.sink) (fault_line s)) c.status_of-status.ensures c.put_fault.ensures.line;
       silent = λ is. ap g.K.Sink.model (c.put_fault.ensures.silent (c.status_of-status.ensures ∙ is));
       silent_done = λ is. ap g.K.Sink.model (c.put_fault.ensures.silent_done (c.status_of-status.ensures ∙ is));
-      unread = record { rest = refl; faults = refl };
-      none_answered = c.new.ensures.items;
-      none_ordered = c.new-in-Ok.ensures.items;
+      alone = record { unread = record { rest = refl; faults = refl }; none_answered = c.new.ensures.items; none_ordered = c.new-in-Ok.ensures.items };
     })))
 
 pub returns-in-Err : goal.returns-in-Err
