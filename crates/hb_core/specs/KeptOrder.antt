@@ -4,7 +4,6 @@ use Rattle.std.specs.List.{slice_get}
 use Rattle.hb_set.specs.declared.commands.Reply.{Reply}
 use Rattle.hb_set.specs.declared.commands.Reply.TheVariants as replies
 use Rattle.hb_set.specs.declared.scripts.Answered.{Answered}
-use Rattle.hb_activity.specs.declared.activities.Activity.TheVariants as at
 use Rattle.hb_core.specs.Machines.{Files, Machine, current_file, settled_count}
 use Rattle.hb_ops.specs.Files.{FileState, contents_of}
 use Rattle.hb_set.specs.Machine.{RecordSet}

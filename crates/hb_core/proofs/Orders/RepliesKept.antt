@@ -1,7 +1,6 @@
 -- After a step the reply that is kept for a line that awaits its place is one of the order.
 use Rattle.std.proofs.Common.{inl, inr, ℕ, subst}
 use Rattle.hb_set.specs.declared.commands.Reply.{Reply}
-use Rattle.hb_activity.specs.declared.activities.Activity.TheVariants as at
 use Rattle.hb_core.specs.declared.outcomes.Outcome.{Outcome}
 use Rattle.hb_core.proofs.Facts.StepLines.{LinesAfter, lines_after}
 use Rattle.hb_core.specs.KeptMachine.{MachineKeeps}
