@@ -6,17 +6,6 @@ pub mod TakenLines
 pub mod BroughtSteps
 pub mod FlushedSteps
 pub mod ChainOfInsert
-pub mod ChainOfTwoParts
-pub mod SplitPages
-pub mod SplitRows
-pub mod ChainOfTwo
-pub mod ChainOfPosting
 pub mod SaidSteps
-pub mod ChainBesidePoster
-pub mod ChainOfNewTurn
-pub mod ChainOfCommands
-pub mod ChainOfFreePage
-pub mod ChainOfMerging
 pub mod UntoldSteps
 pub mod ChainOfReadFault
-pub mod ChainOfThreePages

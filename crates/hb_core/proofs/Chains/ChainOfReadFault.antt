@@ -4,18 +4,29 @@ use Rattle.hb_activity.specs.declared.activities.Activity.TheVariants as at
 use Rattle.hb_activity.specs.declared.dropping.DropWhy.TheVariants as drops
 use Rattle.hb_activity.specs.declared.jobs.Job.{Job}
 use Rattle.hb_activity.specs.declared.jobs.JobKind.TheVariants.{Post}
-use Rattle.hb_core.specs.ChainBesidePoster.{seeks_twenty}
-use Rattle.hb_core.specs.ChainOfPosting.{raised_meta}
-use Rattle.hb_core.specs.ChainOfReadFault.{RootIsNotRead, unread_before}
+use Rattle.hb_activity.specs.declared.activities.Activity.{Activity}
+use Rattle.hb_activity.specs.Deeds.{Deed, takes_job}
+use Rattle.hb_activity.specs.Queue.{LeavesFirst}
+use Rattle.hb_core.specs.Performing.{ChangesQueue}
+use Rattle.hb_core.specs.ChainOfReadFault.{RootIsNotRead, posts_at_ten as job, raised_meta, seeks_twenty, unread_before}
 use Rattle.hb_core.specs.GivingUp.{gives_up}
 use Rattle.hb_core.specs.Scenes.{Scene, standing, untold_scene}
 use Rattle.hb_core.specs.Steps.{TakesJob}
 use Rattle.hb_core.proofs.Chains.BuiltSteps.{after_as_it_is, only_looks, queued}
-use Rattle.hb_core.proofs.Chains.ChainOfPosting.{it_leaves, job, takes}
 use Rattle.hb_core.proofs.Chains.UntoldSteps.{performed_untold, reads_not, takes_line_untold}
 use Rattle.hb_point.specs.SessionRows.{taking}
 use Rattle.hb_store.specs.Fetching.{IsNoPage}
 use Rattle.std.proofs.lemmas.List.Elements.{All-from_recursion}
+
+-- the poster takes the job, the only one
+abbrev takes : Activity → Deed
+takes next = takes_job next job
+
+leaves_first : LeavesFirst Post (job ∷ []) job []
+leaves_first = record { front = []; behind = []; whole = refl; of_kind = refl; first = All-from_recursion (λ (other : Job). other.kind ≢ Post) [] tt; rest = refl }
+
+it_leaves : (next : Activity) → ChangesQueue (takes next) (job ∷ []) []
+it_leaves next = record { left = []; takes = leaves_first; adds = refl }
 
 abbrev line_taken : Scene
 line_taken = after_as_it_is 1 (taking seeks_twenty) (job ∷ []) unread_before

@@ -32,9 +32,6 @@ forces s done = inl (refl, refl)
 abbrev pub cleaned_scene : ℕ → Scene → Scene
 cleaned_scene id s = record s { dirty = without id s.dirty; clock = s.clock + 1 }
 
-abbrev pub begun_scene : Scene → Scene
-begun_scene s = record s { turn = (switched_state (store_of s)).turn; written = 0; groups = []; in_log = []; clock = s.clock + 9 }
-
 -- ---- what a step flushes, and says then
 
 module _ (s : Scene) (due : Outcome) (nothing : Type 0) where
@@ -57,15 +54,7 @@ module _ (s : Scene) (due : Outcome) (nothing : Type 0) where
     ),
   )
 
-  -- none waits and none is to be written, and the next turn begins
-  pub begins_turn : s.groups ≡ [] → oldest_dirty (uses_in s) ≡ None → 0 < s.written → FlushesOnce (machine_of s) due nothing due (machine_of (begun_scene s))
-  begins_turn none clean_all some = inr (none, inr (inl ((clean_all, some), inl (record { says = refl; leaves = refl }))))
-
 -- ---- who flushes
-
--- an actor that can't go on before
-pub helps : (s : Scene) (actor : ℕ) (new : Machine) → IsClearIn s actor → IsUnready (machine_of s) actor → FlushesOnce (machine_of s) outcomes.Helped ⊥ outcomes.Helped new → Works (machine_of s) actor outcomes.Helped new
-helps s actor new clear unready flushes = inr (inl (way_free s actor clear, unready, flushes))
 
 -- the flusher, which has nothing left
 pub rests : (s : Scene) → s.groups ≡ [] → oldest_dirty (uses_in s) ≡ None → s.written ≡ 0 → Flushes (machine_of s) outcomes.Idle (machine_of s)

@@ -42,10 +42,6 @@ none_out actor lock (one ∷ rest) none other another out = elim (other == one.0
 pub box_free : (s : Scene) (actor : ℕ) (lock : BoxLock) → NoneLocksOut actor lock s.at_work → HasBoxFree (machine_of s) actor lock
 box_free s actor lock none other out = none_out actor lock s.at_work none other out.another out.excluded
 
--- locks on two points don't
-pub points_apart : (a b : ℕ) (one other : Bool) → a ≢ b → Excludes (record { area = point_area (a ∷ []); shared = one }) (record { area = point_area (b ∷ []); shared = other }) → ⊥
-points_apart a b one other apart out = let meets = out.meets 0 (omega arith) in apart (omega (arith, meets))
-
 pub takes_line : (s : Scene) (actor : ℕ) (line : Line) (jobs : List Job) → ChangesQueue (taking line) s.jobs jobs → NoneLocksOut actor (lock_of_command line.command) s.at_work
     → IsUsedAsItIs actor (taking line) jobs s → BeginsLine (machine_of s) actor line outcomes.Moved (machine_of (after_as_it_is actor (taking line) jobs s))
 takes_line s actor line jobs queue none used = inr (box_free s actor (lock_of_command line.command) none, inl (performed s actor (taking line) jobs queue tt used))
