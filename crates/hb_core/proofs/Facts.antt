@@ -20,3 +20,4 @@ pub mod StepKinds
 pub mod StepLines
 pub mod Ways
 pub mod LaterPages
+pub mod SettledPlaces

@@ -12,7 +12,7 @@ use Rattle.hb_core.specs.KeptMachine.{CoreKeeps}
 use Rattle.hb_core.specs.Machines.{Files, Machine}
 use Rattle.hb_core.specs.Showing.{RunningCore}
 use Rattle.hb_core.specs.Taking.{begun_core}
-use Rattle.hb_core.specs.Working.{MayGoOn}
+use Rattle.hb_core.specs.Going.{MayGoOn}
 
 -- Steps may be taken of it as before, over any disk.
 abbrev pub WaitingGoesOn : Type 0

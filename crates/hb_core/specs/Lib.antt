@@ -50,6 +50,7 @@ pub mod Stopping
 pub mod Looking
 pub mod AskingDeciders
 pub mod LookingToMerge
+pub mod Going
 pub mod Working
 pub mod Relied
 pub mod Between

@@ -1,5 +1,5 @@
 -- That somebody may always go on, as laws.
-use Rattle.std.specs.Prelude.{◌≡◌, ◌⊎◌, ℕ, ◌+◌, false, Contains, count_by, None, IsSome}
+use Rattle.std.specs.Prelude.{◌≡◌, ◌⊎◌, ℕ, ◌+◌, false, if◌then◌else◌, Contains, count_by, None, IsSome, is_some}
 use Rattle.hb_space.specs.Actors.{IsActor}
 use Rattle.hb_set.specs.Machine.{RecordSet}
 use Rattle.hb_set.specs.declared.scripts.Line.{Line}
@@ -7,7 +7,9 @@ use Rattle.hb_activity.specs.declared.jobs.Job.{Job}
 use Rattle.hb_activity.specs.Queue.{is_of}
 use Rattle.hb_activity.specs.declared.jobs.JobKind.{JobKind}
 use Rattle.hb_activity.specs.declared.jobs.JobKind.TheVariants.{Post, Merge}
+use Rattle.hb_activity.specs.declared.activities.Activity.{Activity}
 use Rattle.hb_activity.specs.declared.activities.Activity.TheVariants as at
+use Rattle.hb_activity.specs.Classes.{job_in_work}
 use Rattle.hb_point.specs.SessionRows.{is_answered, next_line}
 use Rattle.hb_core.specs.declared.outcomes.Outcome.{Outcome}
 use Rattle.hb_core.specs.declared.outcomes.Outcome.TheVariants as outcomes
@@ -15,7 +17,14 @@ use Rattle.hb_core.specs.KeptMachine.{CoreKeeps}
 use Rattle.hb_core.specs.Machines.{Files, Machine}
 use Rattle.hb_core.specs.SteppingLaws.{IsAtRest}
 use Rattle.hb_core.specs.Steps.{StepsTo}
-use Rattle.hb_core.specs.Taking.{jobs_in_work, worker_for}
+
+-- who works off the jobs of a kind, and how many an actor has in work
+abbrev pub worker_for : JobKind → ℕ
+worker_for Post = 17
+worker_for Merge = 18
+
+abbrev pub jobs_in_work : Activity → ℕ
+jobs_in_work activity = if is_some (job_in_work activity) then 1 else 0
 
 -- how many jobs of a kind wait or are in work
 abbrev pub jobs_of : JobKind → Machine → ℕ

@@ -15,7 +15,8 @@ use Rattle.hb_core.specs.Looking.{MayLook}
 use Rattle.hb_core.specs.Machines.{Machine}
 use Rattle.hb_core.specs.Showing.{RunningCore}
 use Rattle.hb_core.specs.Taking.{HaveBoxes}
-use Rattle.hb_core.specs.Working.{HasCome, HasPages, IsWorking, MayStep, MayWork}
+use Rattle.hb_core.specs.Going.{IsWorking, MayWork}
+use Rattle.hb_core.specs.Working.{HasCome, HasPages, MayStep}
 
 -- the core shows a machine that may take steps; or one that may and isn't stopped
 abbrev pub MayTakeSteps : DiskModel → RunningCore → Type 0

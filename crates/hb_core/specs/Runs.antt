@@ -24,7 +24,7 @@ use Rattle.hb_core.specs.Machines.{Files, Machine}
 use Rattle.hb_core.specs.MomentLaws.{ImagesHavePrefixes, IsPrefixImage}
 use Rattle.hb_core.specs.Showing.{RunningCore, ShowsMachine}
 use Rattle.hb_core.specs.Steps.{StepsInSequence}
-use Rattle.hb_core.specs.Working.{MayGoOn}
+use Rattle.hb_core.specs.Going.{MayGoOn}
 
 -- Since the answer every image has a prefix of the order that holds it, where it stands in the order.
 abbrev pub HoldsSince : DiskModel → RecordSet → List Entry → Answered → Type 0

@@ -84,14 +84,6 @@ TakesNextMerging actor outcome old new =
     ((outcome ≡ outcomes.Idle) × (new ≡ old) × All (λ (job : Job). job.kind ≢ Merge) old.jobs)
     ⊎ ((job : Job) × (next : Activity) × (job.kind ≡ Merge) × IsMergingOf job old.store.meta.height next × DoesDeed actor [] (takes_job next job) outcome old new)
 
--- who works off the jobs of a kind, and how many an actor has in work
-abbrev pub worker_for : JobKind → ℕ
-worker_for Post = 17
-worker_for Merge = 18
-
-abbrev pub jobs_in_work : Activity → ℕ
-jobs_in_work activity = if is_some (job_in_work activity) then 1 else 0
-
 -- all actors with nothing in hand, and a core that has taken no step
 abbrev pub all_idle : List Activity
 all_idle = replicate 16 at.SessionIdle ++ at.PosterIdle ∷ at.ConsolidatorIdle ∷ at.Flusher ∷ []

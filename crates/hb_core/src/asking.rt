@@ -11,7 +11,7 @@ ghost use Rattle.hb_core.specs.CoreSeen.{core_seen};
 ghost use Rattle.hb_core.specs.Looking.{FailsTest, IsOfOtherLevel, MayLook, PassesTest, wanted_in};
 ghost use Rattle.hb_core.specs.Machines.{live_here};
 ghost use Rattle.hb_core.specs.Moving.{StandsAs};
-ghost use Rattle.hb_core.specs.Working.{IsWorking};
+ghost use Rattle.hb_core.specs.Going.{IsWorking};
 ghost use Rattle.hb_core.specs.Relied.{MayLookFor, MayTest};
 
 use crate::leaf_boxes::box_by_leaf;

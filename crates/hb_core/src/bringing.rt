@@ -10,7 +10,8 @@ ghost use Rattle.hb_core.specs.Machines.{Machine, live_here};
 ghost use Rattle.hb_core.specs.Moving.{StandsAs, placed, with_standing};
 ghost use Rattle.hb_disk.specs.Calls.{ReadsOnly};
 ghost use Rattle.hb_core.specs.Touching.{IsReadHalt};
-ghost use Rattle.hb_core.specs.Working.{Halts, HaltsPinned, HasCome, HasPages, MayStep, MayWork, with_memory};
+ghost use Rattle.hb_core.specs.Going.{MayWork};
+ghost use Rattle.hb_core.specs.Working.{Halts, HaltsPinned, HasCome, HasPages, MayStep, with_memory};
 ghost use Rattle.hb_core.specs.Relied.{MayDecide, MayDoRow, MayNumber, MayTest};
 
 use crate::halts::{Halt, halt_of};

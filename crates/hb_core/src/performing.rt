@@ -24,7 +24,7 @@ ghost use Rattle.hb_core.specs.Moving.{AreApart, DoesDeed, KeepsFilesBy, KeepsSt
 ghost use Rattle.hb_core.specs.Performing.{MayDo, Relatches, latches_held, mode_among};
 ghost use Rattle.hb_core.specs.Pinning.{CanMovePins, CanPin, CanUnpin};
 ghost use Rattle.hb_core.specs.Using.{pages_of, pin_each, unpin_each, use_done};
-ghost use Rattle.hb_core.specs.Working.{IsWorking};
+ghost use Rattle.hb_core.specs.Going.{IsWorking};
 
 use crate::counts::TidyCounts;
 use crate::halts::Halt;

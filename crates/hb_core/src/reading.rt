@@ -16,7 +16,8 @@ ghost use Rattle.hb_core.specs.KeptMachine.{MachineKeeps};
 ghost use Rattle.hb_core.specs.Runs.{has_none, left_count, left_numbers};
 ghost use Rattle.hb_core.specs.SteppingLaws.{IsBegun};
 ghost use Rattle.hb_core.specs.ProgressLaws.{jobs_of};
-ghost use Rattle.hb_core.specs.Taking.{IsMade, all_idle, begun_core, jobs_in_work, worker_for};
+ghost use Rattle.hb_core.specs.ProgressLaws.{jobs_in_work, worker_for};
+ghost use Rattle.hb_core.specs.Taking.{IsMade, all_idle, begun_core};
 ghost use Rattle.hb_core.specs.Showing.{ShowsFiles, ShowsMachine, number_in_hand};
 
 use crate::counts::TidyCounts;

@@ -19,7 +19,8 @@ ghost use Rattle.hb_core.specs.Showing.{ShowsMachine};
 ghost use Rattle.hb_core.specs.Steps.{Works};
 ghost use Rattle.hb_disk.specs.Calls.{ReadsOnly};
 ghost use Rattle.hb_core.specs.Touching.{IsReadHalt, Touches};
-ghost use Rattle.hb_core.specs.Working.{Halts, HaltsPinned, HasCome, IsStop, IsWorking, MayStep, MayWork};
+ghost use Rattle.hb_core.specs.Going.{IsWorking, MayWork};
+ghost use Rattle.hb_core.specs.Working.{Halts, HaltsPinned, HasCome, IsStop, MayStep};
 ghost use Rattle.hb_core.specs.Relied.{IsAtWork, MayDoRow, MayLookFor, MayNumber};
 
 use crate::halts::Halt;

@@ -21,7 +21,8 @@ use Rattle.hb_core.specs.ProgressLaws.{jobs_of}
 use Rattle.hb_core.specs.Showing.{RunningCore, ShowsMachine}
 use Rattle.hb_core.specs.SteppingLaws.{IsAtRest}
 use Rattle.hb_core.specs.Steps.{StepsTo}
-use Rattle.hb_core.specs.Taking.{all_idle, jobs_in_work, worker_for}
+use Rattle.hb_core.specs.ProgressLaws.{jobs_in_work, worker_for}
+use Rattle.hb_core.specs.Taking.{all_idle}
 use Rattle.hb_core.specs.Working.{MayStep}
 use Rattle.hb_core.specs.declared.outcomes.Outcome.{Outcome}
 use Rattle.hb_tidy.specs.Going.{AllRest, RestsBut}

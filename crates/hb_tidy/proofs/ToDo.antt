@@ -22,7 +22,7 @@ use Rattle.hb_core.specs.ProgressLaws.{HasToDo}
 use Rattle.hb_core.specs.Showing.{RunningCore, ShowsMachine}
 use Rattle.hb_core.specs.SteppingLaws.{IsAtRest}
 use Rattle.hb_core.specs.ProgressLaws.{jobs_of}
-use Rattle.hb_core.specs.Taking.{jobs_in_work, worker_for}
+use Rattle.hb_core.specs.ProgressLaws.{jobs_in_work, worker_for}
 use Rattle.hb_tidy.specs.Working.{HasCause, OthersRest}
 
 -- ---- a queue in which a job of a kind is counted

@@ -11,7 +11,7 @@ use Rattle.hb_core.specs.Machines.{Machine}
 use Rattle.hb_core.specs.Showing.{RunningCore, ShowsMachine}
 use Rattle.hb_core.specs.Steps.{StepsTo}
 use Rattle.hb_core.specs.ProgressLaws.{jobs_of}
-use Rattle.hb_core.specs.Taking.{worker_for}
+use Rattle.hb_core.specs.ProgressLaws.{worker_for}
 use Rattle.hb_core.specs.Touching.{Touches}
 use Rattle.hb_core.specs.Working.{MayStep}
 use Rattle.hb_core.specs.declared.outcomes.Outcome.{Outcome}

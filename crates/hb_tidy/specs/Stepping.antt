@@ -9,7 +9,7 @@ use Rattle.hb_store.specs.declared.stops.StopWhy.TheVariants as whys
 use Rattle.hb_core.specs.Machines.{Machine}
 use Rattle.hb_core.specs.ProgressLaws.{jobs_of}
 use Rattle.hb_core.specs.Showing.{RunningCore, ShowsMachine}
-use Rattle.hb_core.specs.Taking.{worker_for}
+use Rattle.hb_core.specs.ProgressLaws.{worker_for}
 use Rattle.hb_core.specs.declared.outcomes.Outcome.{Outcome}
 use Rattle.hb_core.specs.declared.outcomes.Outcome.TheVariants as outcomes
 use Rattle.hb_tidy.specs.declared.stops.TidyStop.{TidyStop}

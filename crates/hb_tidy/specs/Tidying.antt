@@ -15,7 +15,7 @@ use Rattle.hb_core.specs.Runs.{ChangesFile, CountsFaults, CrashesTo}
 use Rattle.hb_core.specs.Showing.{RunningCore, ShowsMachine}
 use Rattle.hb_core.specs.Taking.{all_idle}
 use Rattle.hb_core.specs.Relied.{MayRun}
-use Rattle.hb_core.specs.Working.{MayGoOn}
+use Rattle.hb_core.specs.Going.{MayGoOn}
 use Rattle.hb_tidy.specs.declared.stops.TidyStop.{TidyStop}
 use Rattle.hb_tidy.specs.declared.stops.TidyStop.TheVariants as stops
 use Rattle.hb_tidy.specs.Finding.{IsTidy, WantsPage}

@@ -47,7 +47,7 @@ use Rattle.hb_core.specs.Using.{is_changed, page_wanted, pages_of, use_done, use
 use Rattle.hb_pool.specs.Frames.{Use}
 use Rattle.hb_pool.specs.Pools.{places}
 use Rattle.hb_store.specs.Held.{IsTied}
-use Rattle.hb_core.proofs.Running.Brought.{brings_none}
+use Rattle.hb_core.proofs.Memory.BroughtPages.{brings_none}
 
 -- ---- what a scene's store answers
 

@@ -19,7 +19,7 @@ use Rattle.hb_core.proofs.Chains.BuiltSteps.{IsClearIn, IsUsedAsItIs, MayBeIn, a
 use Rattle.hb_core.proofs.Chains.TakenLines.{NoneLocksOut, box_free}
 use Rattle.hb_core.proofs.Chains.WrittenTables.{entry_at}
 use Rattle.hb_store.specs.Fetching.{IsNoPage}
-use Rattle.hb_core.proofs.Running.Brought.{brings_none}
+use Rattle.hb_core.proofs.Memory.BroughtPages.{brings_none}
 
 none_told : (op : Option Op) → ◌≡◌ {A = Option Files} None (files_after op None)
 none_told None = refl

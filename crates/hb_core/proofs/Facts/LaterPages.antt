@@ -1,5 +1,5 @@
 -- A walk goes on to a page that comes later.
-use Rattle.std.proofs.Common.{◌≡◌, inl, inr, ℕ, ◌-◌, List, [], ◌∷◌, All, Option, Some, None, refl, sym, ap, ◌∙◌, subst, length}
+use Rattle.std.proofs.Common.{◌≡◌, inl, inr, ℕ, ◌-◌, List, [], ◌∷◌, All, Option, Some, None, refl, sym, ap, ◌∙◌, subst}
 use Rattle.std.specs.Option.{option_and_then}
 use Rattle.std.proofs.lemmas.List.Elements.{All-head, All-tail}
 use Rattle.hb_frag.specs.declared.leaves.Leaf.{Leaf}
@@ -16,7 +16,7 @@ use Rattle.hb_activity.specs.Wanting.{in_mode, named_page, onward_at, walk_next,
 use Rattle.hb_core.specs.Asking.{looked_live}
 use Rattle.hb_core.specs.Keeps.{HasSoundFile}
 use Rattle.hb_core.specs.Laws.{WalksGoFurther}
-use Rattle.hb_core.specs.Machines.{Files, Machine, current_file, live_here, settled_count}
+use Rattle.hb_core.specs.Machines.{Files, Machine, current_file, live_here}
 use Rattle.hb_frag.specs.Leaves.{Placed, leaf_at}
 use Rattle.hb_ops.specs.Files.{FileState, if_live, live_page, last_of, page_of}
 use Rattle.hb_ops.specs.Sound.{IsSound}
@@ -25,10 +25,6 @@ use Rattle.hb_sound.specs.PointWalks.{LeadsOn}
 use Rattle.hb_store.specs.States.{in_memory, StoreState}
 use Rattle.hb_ops.proofs.Facts.PageNumberLaws.{live_so}
 use Rattle.hb_frag.specs.declared.pages.Page.{Page}
-use Rattle.hb_disk.specs.Model.{DiskModel}
-use Rattle.hb_core.specs.Showing.{RunningCore, ShowsMachine}
-use Rattle.hb_wal.specs.Log.{mark_of}
-use Rattle.hb_core.proofs.Running.StandsElsewhere.{shown_length}
 
 -- the last file is sound
 pub last_sound : (s : FileState) (later : List FileState) → IsSound s → All IsSound later → IsSound (last_of s later)
@@ -95,7 +91,3 @@ pub walks_go_further : StepsLeadFurther → WalksGoFurther
 walks_go_further further m files actor held page p wanted keeps point holds goal live wants =
     let there = shown_live m.store (current_file files) keeps.shown held page live in
     further (current_file files) p held wanted.page page (file_sound m files keeps) point there (leads further m files held page p wanted keeps live (m.activity actor) holds goal wants)
-
--- the places that are settled are the machine's
-pub same_settled : (d : DiskModel) (c : RunningCore) (m : Machine) → ShowsMachine d c m → settled_count m ≡ mark_of c.store.log.groups (length c.order)
-same_settled d c m shows = ap (λ (s : StoreState). mark_of s.log.groups (length m.order)) shows.store ∙ ap (mark_of c.store.log.groups) (shown_length d c m shows)

@@ -23,7 +23,8 @@ use Rattle.hb_core.specs.Showing.{RunningCore, ShowsMachine}
 use Rattle.hb_core.specs.Steps.{StepsInSequence, StepsTo}
 use Rattle.hb_core.specs.SteppingLaws.{IsBetween}
 use Rattle.hb_core.specs.Touching.{Touches}
-use Rattle.hb_core.specs.Working.{MayGoOn, MayStep}
+use Rattle.hb_core.specs.Going.{MayGoOn}
+use Rattle.hb_core.specs.Working.{MayStep}
 use Rattle.hb_core.specs.declared.outcomes.Outcome.{Outcome}
 use Rattle.hb_disk.proofs.Facts.BecomesLaws.{Becomes-read}
 use Rattle.hb_disk.proofs.Facts.FaultLaws.{Stays-same}

@@ -44,7 +44,7 @@ use Rattle.hb_core.specs.KeptSequence.{IsInSequence, LinesInSequence}
 use Rattle.hb_core.specs.Machines.{Files, Machine, live_here, settled_count, stopped_for, with_disk, with_uses}
 use Rattle.hb_core.specs.Performing.{latches_held, mode_among}
 use Rattle.hb_core.specs.Using.{FramesFit, pins_of}
-use Rattle.hb_core.specs.Working.{MayGoOn}
+use Rattle.hb_core.specs.Going.{MayGoOn}
 
 -- the pages that somebody holds are there as they were
 abbrev pub HeldStay : Machine → StoreState → Type 0

@@ -60,3 +60,14 @@ module _ (m : Machine) (may : ℕ → Type 0) (fetched : StoreState) (brings : B
     | inr (inl gone) ↦ inr (λ must. not_none (in_memory fetched id) page (brings.stays id must (has_value (in_memory m.store id) page was) ∙ was) gone, inl gone)
     | inr (inr (untold, asked, free)) ↦ inr (free, inr untold)
   ]
+
+-- nothing came
+pub brings_none : (m : Machine) (may : ℕ → Type 0) (st : StoreState) → m.store ≡ st → Brings m may st
+brings_none m may st same = subst (Brings m may) same (record {
+  rest = refl;
+  stays = λ id must there. refl;
+  others = λ id there. inl refl;
+  only = λ id none there. let page = some_value (in_memory m.store id) there in absurd (not_none (in_memory m.store id) page.0 page.1 none);
+  good = λ id page there. inl there;
+  told = λ id page none there. absurd (not_none (in_memory m.store id) page there none);
+})

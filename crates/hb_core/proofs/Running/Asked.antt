@@ -50,7 +50,8 @@ use Rattle.hb_core.specs.LookingToMerge.{AsksMerger, second_page}
 use Rattle.hb_core.specs.Machines.{Machine, live_here, next_of, with_disk}
 use Rattle.hb_core.specs.Rows.{IsAtHand}
 use Rattle.hb_core.specs.Showing.{RunningCore}
-use Rattle.hb_core.specs.Working.{HasPages, IsWorking, with_memory}
+use Rattle.hb_core.specs.Going.{IsWorking}
+use Rattle.hb_core.specs.Working.{HasPages, with_memory}
 
 -- pages that came, of whatever numbers
 pub any_brings : (m : Machine) (may : ℕ → Type 0) (fetched : StoreState) → Brings m may fetched → Brings m AnyPage fetched

@@ -21,7 +21,7 @@ use Rattle.hb_core.proofs.Running.LeafBoxes.{HasMany, child_many, place_many, si
 use Rattle.hb_core.specs.Asking.{AskedBox, asked_box, box_at, box_by_leaf, box_of_child, box_of_place, box_of_sibling}
 use Rattle.hb_core.specs.Looking.{MayLook}
 use Rattle.hb_core.specs.Machines.{live_here}
-use Rattle.hb_core.specs.Working.{IsWorking}
+use Rattle.hb_core.specs.Going.{IsWorking}
 use Rattle.hb_core.proofs.Files.FitOps.{live_good}
 
 module _ (st : StoreState) (memory : IsMemory st) where

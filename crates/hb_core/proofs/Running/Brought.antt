@@ -19,17 +19,6 @@ use Rattle.hb_core.specs.Moving.{with_order_of_use, with_store}
 use Rattle.hb_core.specs.Showing.{RunningCore, ShowsFiles, ShowsMachine}
 use Rattle.hb_core.proofs.Running.ForcedShows.{shown_with}
 
--- nothing came
-pub brings_none : (m : Machine) (may : ℕ → Type 0) (st : StoreState) → m.store ≡ st → Brings m may st
-brings_none m may st same = subst (Brings m may) same (record {
-  rest = refl;
-  stays = λ id must there. refl;
-  others = λ id there. inl refl;
-  only = λ id none there. let page = some_value (in_memory m.store id) there in absurd (not_none (in_memory m.store id) page.0 page.1 none);
-  good = λ id page there. inl there;
-  told = λ id page none there. absurd (not_none (in_memory m.store id) page there none);
-})
-
 module _ (m : Machine) (d e : DiskModel) (c : RunningCore) (failed : Type 0) (st : StoreState) (shows : ShowsMachine d c m) (looks : LooksUp failed d e c.store st) where
   keeps_files : (durable : FileState) (later : List FileState) → StoreKeeps d m.store durable later → StoreKeeps e st durable later
   keeps_files durable later kept = looks.keeps durable later (subst (λ (x : StoreState). StoreKeeps d x durable later) shows.store kept)

@@ -38,7 +38,8 @@ use Rattle.hb_core.specs.declared.halts.Halt.{Halt}
 use Rattle.hb_core.specs.declared.halts.Halt.TheVariants.{Stops}
 use Rattle.hb_core.proofs.Files.SoundFiles.{current_sound, files_hold}
 use Rattle.hb_core.proofs.Machines.PinsFollow.{more_number}
-use Rattle.hb_core.proofs.Running.Brought.{brings_none, brings_wider, fetch_brings, shows_store}
+use Rattle.hb_core.proofs.Running.Brought.{brings_wider, fetch_brings, shows_store}
+use Rattle.hb_core.proofs.Memory.BroughtPages.{brings_none}
 use Rattle.hb_core.proofs.Running.Frames.{may_pin, shown_stays, shown_tied}
 use Rattle.hb_core.proofs.Running.Pins.{one_itself, pinned_frame, tied_unpinned}
 use Rattle.hb_core.proofs.Running.LeafBoxes.{Asks, child_asks_there, place_asks_there, sibling_asks_there}
@@ -60,7 +61,8 @@ use Rattle.hb_core.specs.Machines.{Files, Machine, current_file, live_here, with
 use Rattle.hb_core.specs.Rows.{IsAtHand}
 use Rattle.hb_core.specs.Showing.{RunningCore, ShowsMachine}
 use Rattle.hb_core.specs.Stopping.{IsHaltOf}
-use Rattle.hb_core.specs.Working.{HasCome, Halts, IsHalt, IsWorking, MayStep, MayWork}
+use Rattle.hb_core.specs.Going.{IsWorking, MayWork}
+use Rattle.hb_core.specs.Working.{HasCome, Halts, IsHalt, MayStep}
 
 -- what a call that reads did, it did still after one that changes no page and no disk
 pub looks_kept : {failed : Type 0} {d e f : DiskModel} {old middle st : StoreState} → f ≡ e → st ≡ middle → LooksUp failed d e old middle → LooksUp failed d f old st

@@ -47,7 +47,8 @@ use Rattle.hb_core.specs.Rows.{IsAtHand, Row}
 use Rattle.hb_core.specs.Showing.{RunningCore, ShowsFiles, ShowsMachine}
 use Rattle.hb_core.specs.Steps.{may_change_file}
 use Rattle.hb_core.proofs.Running.PlacesFor.{is_ready}
-use Rattle.hb_core.specs.Working.{MayWork, with_memory}
+use Rattle.hb_core.specs.Going.{MayWork}
+use Rattle.hb_core.specs.Working.{with_memory}
 
 module _ (m : Machine) (actor : ℕ) (fetched : StoreState) (keeps : MachineKeeps m) (brings : Brings m AnyPage fetched) where
   -- ---- a row that does an operation is of a step that may change the file

@@ -34,7 +34,8 @@ use Rattle.hb_core.specs.Machines.{Machine, sight}
 use Rattle.hb_core.specs.Moving.{StandsAs}
 use Rattle.hb_core.specs.Rows.{IsAtHand, Row, RowAt}
 use Rattle.hb_core.specs.Showing.{RunningCore}
-use Rattle.hb_core.specs.Working.{HasPages, IsWorking, with_memory}
+use Rattle.hb_core.specs.Going.{IsWorking}
+use Rattle.hb_core.specs.Working.{HasPages, with_memory}
 
 -- ---- who is at work
 

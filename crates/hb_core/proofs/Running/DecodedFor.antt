@@ -22,7 +22,8 @@ use Rattle.hb_core.specs.Machines.{Machine}
 use Rattle.hb_core.specs.Moving.{StandsAs}
 use Rattle.hb_core.specs.Rows.{IsAtHand}
 use Rattle.hb_core.specs.Showing.{RunningCore}
-use Rattle.hb_core.specs.Working.{HasPages, IsWorking, with_memory}
+use Rattle.hb_core.specs.Going.{IsWorking}
+use Rattle.hb_core.specs.Working.{HasPages, with_memory}
 
 -- a worker at work decodes whatever it reads
 poster_by : (wanted : Option Wanted) (m : Machine) (activity : Activity) → class_of activity ≡ Posters → IsWorking activity → Decodes wanted m activity

@@ -33,7 +33,8 @@ use Rattle.hb_core.specs.Moving.{with_order_of_use, with_store}
 use Rattle.hb_activity.specs.declared.dropping.DropWhy.TheVariants as drops
 use Rattle.hb_core.specs.declared.halts.Halt.TheVariants.{GivesUp, Stops}
 use Rattle.hb_core.proofs.Machines.PinsFollow.{pinned_more}
-use Rattle.hb_core.proofs.Running.Brought.{brings_joined, brings_none, brings_numbered, brings_wider, fetch_brings, shows_store}
+use Rattle.hb_core.proofs.Running.Brought.{brings_joined, brings_numbered, brings_wider, fetch_brings, shows_store}
+use Rattle.hb_core.proofs.Memory.BroughtPages.{brings_none}
 use Rattle.hb_core.proofs.Running.Frames.{must_here, wanted_here}
 use Rattle.hb_core.proofs.Running.PlacesFor.{after_wanted, is_ready}
 use Rattle.hb_activity.specs.Wanting.{may_commit}

@@ -23,7 +23,7 @@ use Rattle.hb_core.specs.Machines.{Machine, with_disk}
 use Rattle.hb_core.specs.Performing.{outcome_of}
 use Rattle.hb_core.specs.Rows.{Row}
 use Rattle.hb_core.specs.Showing.{number_in_hand}
-use Rattle.hb_core.specs.Working.{IsWorking}
+use Rattle.hb_core.specs.Going.{IsWorking}
 use Rattle.hb_point.specs.SessionRows.{next_line}
 use Rattle.hb_consol.specs.ConsolidatorRows.{IsMergingOf}
 use Rattle.hb_poster.specs.PosterRows.{IsPostingOf}

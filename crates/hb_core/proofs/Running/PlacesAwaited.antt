@@ -27,7 +27,7 @@ use Rattle.hb_core.proofs.Running.ForcedShows.{fails, forces, group_waits, with_
 use Rattle.hb_core.proofs.Running.LineTaken.{deed_done}
 use Rattle.hb_core.proofs.Running.NumbersInHand.{kept_number}
 use Rattle.hb_core.proofs.Running.StandsElsewhere.{stands_as}
-use Rattle.hb_core.proofs.Facts.LaterPages.{same_settled}
+use Rattle.hb_core.proofs.Facts.SettledPlaces.{same_settled}
 
 -- the machine stands as the core
 pub awaits_as : (d : DiskModel) (c : RunningCore) (m : Machine) (actor number place : ℕ) (reply : Reply) → IsActor actor → MayStep d c m → StandsAs c actor (at.SessionAwait number reply place) → m.activity actor ≡ at.SessionAwait number reply place

@@ -32,7 +32,7 @@ use Rattle.hb_core.specs.Machines.{Machine, live_here, with_disk}
 use Rattle.hb_core.specs.Moving.{AreApart, MayStand}
 use Rattle.hb_core.specs.Performing.{MayDo, latches_held}
 use Rattle.hb_core.specs.Rows.{Row}
-use Rattle.hb_core.specs.Working.{MayWork}
+use Rattle.hb_core.specs.Going.{MayWork}
 use Rattle.hb_core.proofs.Machines.LatchesApart.{puts_apart}
 
 -- ---- latches on different pages

@@ -18,7 +18,8 @@ use Rattle.hb_core.specs.Moving.{StandsAs}
 use Rattle.hb_core.specs.Showing.{RunningCore, ShowsMachine}
 use Rattle.hb_core.specs.Steps.{AwaitsPlace, StepsAs, StepsTo, Works}
 use Rattle.hb_core.specs.Taking.{TakesNextLine, TakesNextMerging, TakesNextPosting}
-use Rattle.hb_core.specs.Working.{IsWorking, MayStep}
+use Rattle.hb_core.specs.Going.{IsWorking}
+use Rattle.hb_core.specs.Working.{MayStep}
 use Rattle.hb_core.proofs.Running.LineTaken.{is_session, line_taken, merging_taken, posting_taken}
 use Rattle.hb_core.proofs.Running.StandsElsewhere.{stands_as}
 

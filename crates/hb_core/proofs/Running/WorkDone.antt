@@ -32,7 +32,8 @@ use Rattle.hb_core.specs.Machines.{Machine, stopped_for}
 use Rattle.hb_core.specs.Moving.{DoesDeed, StandsAs, number_of, with_stop}
 use Rattle.hb_core.specs.Showing.{RunningCore, ShowsMachine, number_in_hand}
 use Rattle.hb_core.specs.Steps.{IsUnready, Works}
-use Rattle.hb_core.specs.Working.{Halts, IsWorking, MayStep, MayWork, with_memory}
+use Rattle.hb_core.specs.Going.{IsWorking, MayWork}
+use Rattle.hb_core.specs.Working.{Halts, MayStep, with_memory}
 use Rattle.hb_core.proofs.Running.DeedShows.{deed_shows}
 use Rattle.hb_core.proofs.Running.ForcedShows.{shown_stopped}
 use Rattle.hb_core.proofs.Running.LineTaken.{keeps_none}

@@ -21,7 +21,8 @@ use Rattle.hb_core.specs.Machines.{Machine, with_disk}
 use Rattle.hb_core.specs.Performing.{outcome_of}
 use Rattle.hb_core.specs.Showing.{RunningCore}
 use Rattle.hb_core.specs.Touching.{EndsByRead, IsReadHalt, Touches}
-use Rattle.hb_core.specs.Working.{IsHalt, IsWorking}
+use Rattle.hb_core.specs.Going.{IsWorking}
+use Rattle.hb_core.specs.Working.{IsHalt}
 use Rattle.hb_core.proofs.Running.Touched.{IsWell, answered_well, full_reply, moved_well, well_as, memory_reply, same_stop}
 use Rattle.hb_core.proofs.Table.RowFates.{IsFullRow, IsQuietRow, saying_of}
 use Rattle.hb_store.specs.States.{StoreState}

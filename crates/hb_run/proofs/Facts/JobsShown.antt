@@ -9,7 +9,7 @@ use Rattle.hb_activity.specs.declared.jobs.JobKind.TheVariants.{Post, Merge}
 use Rattle.hb_core.specs.Machines.{Machine}
 use Rattle.hb_core.specs.ProgressLaws.{jobs_of}
 use Rattle.hb_core.specs.Showing.{RunningCore, ShowsMachine}
-use Rattle.hb_core.specs.Taking.{jobs_in_work, worker_for}
+use Rattle.hb_core.specs.ProgressLaws.{jobs_in_work, worker_for}
 use Rattle.hb_disk.specs.Model.{DiskModel}
 use Rattle.hb_run.specs.Turning.{in_work, jobs_left}
 use Rattle.hb_space.specs.Actors.{IsActor}
