@@ -24,7 +24,7 @@ use hb_store::Why;
 use hb_view::PageView;
 
 /// How the box of a page is compared with the one that is asked for.
-#[derive(Clone, Copy, Debug)]
+#[derive(Clone, Copy)]
 pub(crate) enum BoxTest {
     /// It is that very box.
     Exactly,
@@ -33,7 +33,7 @@ pub(crate) enum BoxTest {
 }
 
 /// The box of a page that is asked for: this one, or one that has it within.
-#[derive(Debug, Drop)]
+#[derive(Drop)]
 pub(crate) struct AskedBox {
     pub(crate) area: Area,
     pub(crate) test: BoxTest,

@@ -17,7 +17,7 @@ use hb_space::NoMemory;
 use std::alloc::Global;
 
 /// Two pages that are to become one, the one to keep and the one to go, and their parent.
-#[derive(Clone, Copy, Debug)]
+#[derive(Clone, Copy)]
 pub(crate) struct Merging<'a> {
     pub(crate) above: &'a LivePage,
     pub(crate) kept: &'a LivePage,

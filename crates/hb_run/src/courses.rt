@@ -24,7 +24,7 @@ use hb_set::Answered;
 const ROUND: u64 = 256;
 
 /// How far a run is: how many places of its order are settled, and how many rounds of turns were taken.
-#[derive(Debug, Drop)]
+#[derive(Drop)]
 struct Mark {
     settled: u32,
     round: u64,

@@ -19,7 +19,7 @@ pub(crate) const CONSOLIDATOR: Actor = 18;
 pub(crate) const FLUSHER: Actor = 19;
 
 /// One who takes turns.
-#[derive(Debug, Drop)]
+#[derive(Drop)]
 pub(crate) struct Seat {
     pub(crate) actor: Actor,
     ghost may: { IsActor actor },
@@ -46,14 +46,14 @@ pub(crate) fn sessions_of(alloc: Global, lines: &[Line]) -> Result<Vec<Seat>, No
 }
 
 /// A worker, and what it does next in the thread of the caller. One that has a thread of its own has ended there.
-#[derive(Debug, Drop)]
+#[derive(Drop)]
 pub(crate) struct Hand {
     pub(crate) seat: Seat,
     pub(crate) next: Next,
 }
 
 /// The workers, whose turns the caller takes where no thread could be made for them.
-#[derive(Debug, Drop)]
+#[derive(Drop)]
 pub(crate) struct Crew {
     pub(crate) hands: [Hand; 3],
 }

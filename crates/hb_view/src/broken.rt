@@ -16,7 +16,7 @@ use crate::walking::weigh;
 use hb_space::form::PAGE;
 
 /// What a file says of itself that a page by itself has to keep.
-#[derive(Clone, Copy, Debug)]
+#[derive(Clone, Copy)]
 pub(crate) struct Limits {
     /// The number of attributes.
     pub k: u8,
