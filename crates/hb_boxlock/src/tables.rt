@@ -13,7 +13,7 @@ use std::marker::Model;
 pub const ACTORS: usize = 19;
 
 /// The locks that actors have, one at most for each.
-#[derive(Debug, Drop)]
+#[derive(Drop)]
 pub struct BoxLocks {
     // the lock of actor n stands at n - 1
     places: [Option<BoxLock>; ACTORS],
