@@ -11,7 +11,7 @@ ghost use Rattle.hb_space.specs.Boxes.{Area as Extent};
 ghost use Rattle.hb_space.specs.declared.records.Record.{Record as Entry};
 ghost use Rattle.hb_view.specs.Views.{IsLiveAnd};
 
-use crate::{Activity, Job, JobKind, Next};
+use crate::{Activity, Job, Next};
 use hb_view::{LeafView, PageView};
 
 impl Activity {
@@ -62,11 +62,7 @@ impl Activity {
         ensures { MatchOption (walk_point self.now) ⊥ (λ p. result ≡ record { kind = JobKind.Post; level = level + 1; point = p }) }
     {
         match self.walk_point() {
-            Some(point) => Job {
-                kind: JobKind::Post,
-                level: level + 1,
-                point: point.copy(),
-            },
+            Some(point) => Job::owed(level, point.copy()),
             None => unreachable!(),
         }
     }

@@ -18,7 +18,7 @@ use Rattle.hb_ops.specs.Files.{FileState, contents_of}
 use Rattle.hb_set.specs.Machine.{RecordSet}
 use Rattle.hb_set.specs.Order.{IsLegalOrder, result_of}
 
--- Under no number but those of the 19 actors anybody comes to stand.
+-- Under no number but those of the actors anybody comes to stand.
 abbrev pub NobodyElseComes : Type 0
 NobodyElseComes = (m : Machine) (actor : ℕ) (outcome : Outcome) (new : Machine) → IsActor actor → HasNobodyElse m → StepsTo m actor outcome new → HasNobodyElse new
 
@@ -79,7 +79,7 @@ pub record HasPrefixes (n : RecordSet) (m : Machine) (files : Files) : Type 0 wh
 abbrev pub FilesHavePrefixes : Type 0
 FilesHavePrefixes = (n : RecordSet) (m : Machine) (files : Files) → HasSoundFile m files → HasLegalOrder n m files → RepliesStand m → MarksRise m → HasPendingPrefix n m files → HasPrefixes n m files
 
--- Steps of the 19 actors, in whatever sequence, keep all that a machine keeps over a disk that tells, and unsettle no place of the
+-- Steps of actors, in whatever sequence, keep all that a machine keeps over a disk that tells, and unsettle no place of the
 -- order. Where nothing but a write fault had stopped the machine, nothing else has.
 pub record HasKeptAll (n : RecordSet) (m new : Machine) (files : Files) : Type 0 where
   pub keeps : CoreKeeps n new files

@@ -90,7 +90,7 @@ pub record KnowsRoom (m : Machine) : Type 0 where
   pub puts : (actor source fresh : ℕ) (line : _) → m.activity actor ≡ at.SessionPut line source fresh →
       (rec : _) × (line.command ≡ Insert rec) × OneHasRoom m source fresh rec.key rec.body
 
--- There are 19 actors: under every other number an idle session stands.
+-- Under every number that is no actor's an idle session stands.
 abbrev pub HasNobodyElse : Machine → Type 0
 HasNobodyElse m = (actor : ℕ) → ¬ (IsActor actor) → m.activity actor ≡ at.SessionIdle
 

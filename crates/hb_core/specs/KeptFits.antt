@@ -1,6 +1,7 @@
 -- What every machine keeps, over any disk, of its lines' points and boxes, of the jobs, and of who stands where.
 use Rattle.std.specs.Prelude.{◌≡◌, ◌≢◌, ℕ, ◌<◌, ◌≤◌, ◌==◌, if◌then◌else◌, List, [], length, All, false, Option, Some, None, IfSome}
 use Rattle.hb_space.specs.Boxes.{Area, IsArea}
+use Rattle.hb_space.specs.declared.actors.TheConstants.{SESSIONS, POSTER, CONSOLIDATOR, FLUSHER}
 use Rattle.hb_frag.specs.declared.leaves.Leaf.TheVariants.{Sibling}
 use Rattle.hb_frag.specs.declared.pages.LivePage.{LivePage}
 use Rattle.hb_frag.specs.Leaves.{leaf_at}
@@ -16,7 +17,7 @@ use Rattle.hb_point.specs.SessionRows.{WantsBoxes}
 use Rattle.hb_store.specs.States.{StoreState}
 use Rattle.hb_core.specs.Machines.{Machine, live_here}
 
--- a box of k attributes, and a line's command whose points and boxes have k attributes, of one of the 16 sessions
+-- a box of k attributes, and a line's command whose points and boxes have k attributes, of a session
 abbrev pub IsBoxOf : ℕ → Area → Type 0
 IsBoxOf k area = IsArea area × (length area.lo ≡ k)
 
@@ -28,12 +29,12 @@ CommandFits k (Search area) = IsBoxOf k area
 
 pub record IsOfSession (line : Line) : Type 0 where
   pub first : 1 ≤ line.session
-  pub last : line.session ≤ 16
+  pub last : line.session ≤ SESSIONS
 
 pub record LineFits (k : ℕ) (line : Line) : Type 0 where
   pub command : CommandFits k line.command
   pub first_session : 1 ≤ line.session
-  pub last_session : line.session ≤ 16
+  pub last_session : line.session ≤ SESSIONS
 
 -- a job is of a level above the records, at a point of k attributes
 pub record JobFits (k : ℕ) (job : Job) : Type 0 where
@@ -107,9 +108,9 @@ pub record StandsAbove (st : StoreState) (held : Option ℕ) (job : Job) : Type 
 abbrev pub WorkersStand : Machine → Type 0
 WorkersStand m = (actor : ℕ) → IfSome (walking_job (m.activity actor)) (StandsAbove m.store (walk_held (m.activity actor)))
 
--- Actors 1 to 16 are sessions, 17 posts, 18 consolidates, 19 flushes.
+-- what an actor is there for: the three workers, and else a session
 abbrev pub class_for : ℕ → Class
-class_for actor = if actor == 17 then Posters else if actor == 18 then Consolidators else if actor == 19 then Flushers else Sessions
+class_for actor = if actor == POSTER then Posters else if actor == CONSOLIDATOR then Consolidators else if actor == FLUSHER then Flushers else Sessions
 
 abbrev pub HaveClasses : Machine → Type 0
 HaveClasses m = (actor : ℕ) → class_of (m.activity actor) ≡ class_for actor

@@ -30,7 +30,7 @@ pub record Machine : Type 0 where
   pub lines : List Line
   -- the answers so far, in their sequence, each with the disk's clock after its step
   pub answered : List Answered
-  -- where each actor stands: 1 to 16 are sessions, 17 posts, 18 consolidates, 19 flushes
+  -- where each actor stands
   pub activity : ℕ → Activity
   -- which pages each actor has latched, and in which mode
   pub latches : LatchTable

@@ -1,6 +1,7 @@
 -- That somebody may always go on, as laws.
 use Rattle.std.specs.Prelude.{◌≡◌, ◌⊎◌, ℕ, ◌+◌, false, if◌then◌else◌, Contains, count_by, None, IsSome, is_some}
 use Rattle.hb_space.specs.Actors.{IsActor}
+use Rattle.hb_space.specs.declared.actors.TheConstants.{CONSOLIDATOR, POSTER}
 use Rattle.hb_set.specs.Machine.{RecordSet}
 use Rattle.hb_set.specs.declared.scripts.Line.{Line}
 use Rattle.hb_activity.specs.declared.jobs.Job.{Job}
@@ -20,8 +21,8 @@ use Rattle.hb_core.specs.Steps.{StepsTo}
 
 -- who works off the jobs of a kind, and how many an actor has in work
 abbrev pub worker_for : JobKind → ℕ
-worker_for Post = 17
-worker_for Merge = 18
+worker_for Post = POSTER
+worker_for Merge = CONSOLIDATOR
 
 abbrev pub jobs_in_work : Activity → ℕ
 jobs_in_work activity = if is_some (job_in_work activity) then 1 else 0

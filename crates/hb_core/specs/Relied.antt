@@ -1,4 +1,4 @@
--- What the calls of a core rely on; of the private calls of a step a record for each, which also says that the actor is one of the 19.
+-- What the calls of a core rely on; of the private calls of a step a record for each, which also says that the number is an actor's.
 use Rattle.std.specs.Prelude.{◌≡◌, ℕ, ◌-◌, ◌≤◌, All, length, Option, Some, None, IsSome}
 use Rattle.std.specs.List.{slice_get}
 use Rattle.hb_disk.specs.Model.{DiskModel}

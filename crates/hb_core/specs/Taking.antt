@@ -2,6 +2,7 @@
 use Rattle.std.specs.Prelude.{◌≡◌, ◌≢◌, ◌⊎◌, ℕ, Result, IfOk, IfErr, ◌-◌, ◌+◌, All, List, [], ◌∷◌, ◌++◌, length, take, drop, replicate, Some, None, is_some, if◌then◌else◌, ◌<◌, IfSome, IsSomeAnd}
 use Rattle.std.specs.List.{slice_get, slice_set}
 use Rattle.std.specs.FinMap as map
+use Rattle.hb_space.specs.declared.actors.TheConstants.{SESSIONS, POSTER, CONSOLIDATOR}
 use Rattle.hb_activity.specs.declared.activities.Activity.{Activity}
 use Rattle.hb_activity.specs.declared.activities.Activity.TheVariants as at
 use Rattle.hb_boxlock.specs.declared.locks.BoxLock.{BoxLock}
@@ -86,13 +87,13 @@ TakesNextMerging actor outcome old new =
 
 -- all actors with nothing in hand, and a core that has taken no step
 abbrev pub all_idle : List Activity
-all_idle = replicate 16 at.SessionIdle ++ at.PosterIdle ∷ at.ConsolidatorIdle ∷ at.Flusher ∷ []
+all_idle = replicate SESSIONS at.SessionIdle ++ at.PosterIdle ∷ at.ConsolidatorIdle ∷ at.Flusher ∷ []
 
 abbrev pub begun_core : List Line → List ℕ → StoreState → List Use → RunningCore
 begun_core lines steps store uses = record {
   lines = lines;
   steps = steps;
-  behind = replicate 16 0;
+  behind = replicate SESSIONS 0;
   activities = all_idle;
   latches = map.empty;
   jobs = [];

@@ -40,7 +40,7 @@ impl<D: Device> Core<D> {
         match self.store.fetch(wanted.page) {
             Ok(()) => {
                 self.store.pin(wanted.page);
-                let _ = self.store.meta();
+                self.store.stands_well();
                 match self.tested(actor, wanted) {
                     Ok(()) => Ok(()),
                     Err(halt) => {
@@ -91,7 +91,7 @@ impl<D: Device> Core<D> {
             Err(refused) => return Err(Halt::from(refused)),
         }
         let next = self.store.next_page();
-        let _ = self.store.meta();
+        self.store.stands_well();
         match next {
             Ok(next) => Ok(next),
             Err(stop) => Err(halt_of(stop)),

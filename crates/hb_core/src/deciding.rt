@@ -19,11 +19,12 @@ ghost use Rattle.hb_core.specs.Rows.{Row};
 ghost use Rattle.hb_core.specs.Working.{HasCome, HasPages, with_memory};
 
 use crate::reading::idle;
-use crate::state::{CONSOLIDATOR, Core, POSTER};
+use crate::state::Core;
 use hb_activity::{Activity, Latched, Next, Wanted};
 use hb_disk::Device;
 use hb_frag::{LivePage, Page};
 use hb_set::{Command, Reply};
+use hb_space::actors::{CONSOLIDATOR, POSTER};
 use hb_space::{Actor, NoMemory};
 
 impl<D: Device> Core<D> {

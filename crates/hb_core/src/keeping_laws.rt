@@ -13,7 +13,7 @@ use crate::machine_laws::machines_stay_kept;
 use hb_frag::laws::{each_point_has_one_leaf, leaves_part_the_box, parts_are_stretches};
 use hb_layout::limits::limits_of_this_version;
 
-/// Under no number but those of the 19 actors anybody comes to stand, or takes a latch.
+/// Under no number but those of the actors anybody comes to stand, or takes a latch.
 #[tactic(auto, using(crate::proofs::Facts::StillThere::nobody_else_comes, crate::proofs::Facts::StillThere::nobody_else_latches))]
 pub fn nobody_else_comes()
     ensures stands { NobodyElseComes }
@@ -76,7 +76,7 @@ pub fn steps_go_on()
     ensures stopped { StoppedStays }
 {}
 
-/// A list of steps of the 19 actors keeps all that a machine keeps over a disk that tells, and unsettles no
+/// A list of steps of actors keeps all that a machine keeps over a disk that tells, and unsettles no
 /// place of the order; and so it is from a beginning on.
 pub fn steps_keep_all()
     ensures steps { StepsKeepAll }

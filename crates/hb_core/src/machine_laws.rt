@@ -15,7 +15,7 @@ pub fn box_locks_stay_fit()
     ensures { BoxLocksStayFit }
 {}
 
-/// Each step of one of the 19 actors keeps what every machine keeps, and so does a list of such steps. So it
+/// Each step of an actor keeps what every machine keeps, and so does a list of such steps. So it
 /// is over any disk, whether it tells its bytes or not.
 pub fn machines_stay_kept()
     ensures step { MachineStaysKept }

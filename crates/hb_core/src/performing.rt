@@ -76,7 +76,7 @@ impl<D: Device> Core<D> {
         let Ok(()) = self.commit(op, place) else {
             return Err(Halt::GivesUp(DropWhy::NoMemory));
         };
-        let _ = self.store.meta();
+        self.store.stands_well();
         self.add_all(jobs);
         let joins = joins(line, &then, &fate);
         self.stand_with(actor, at_place(then, place), pins);

@@ -33,7 +33,7 @@ use std::alloc::Global;
 use std::mem;
 
 impl<D: Device> Core<D> {
-    /// Takes one step of the actor, which is 1 to 19: sessions 1 to 16, who posts, who merges, who flushes.
+    /// Takes one step of the actor: a session, who posts, who merges, or who flushes.
     ///
     /// For each machine that the core shows there is a step of the table that leads to a machine which it shows then, and says
     /// what the call answers.

@@ -46,7 +46,7 @@ fn mapped<D: Device + Drop>(
     match recover(alloc, disk) {
         Ok((mut file, _records)) => {
             // Its contract says that the frames are those of the pages in memory, as the map wants it.
-            let _ = file.meta();
+            file.stands_well();
             let put = put_map(alloc, &mut file, &mut sink);
             Some((sink, put))
         }

@@ -71,7 +71,7 @@ fn opened(alloc: Global, bytes: Vec<u8>, failing: u64) -> Option<Store<RotDisk>>
     };
     match recover(alloc, disk) {
         Ok((store, _)) => {
-            let _said = store.meta();
+            store.stands_well();
             Some(store)
         }
         Err(_) => None,

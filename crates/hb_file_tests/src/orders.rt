@@ -82,7 +82,7 @@ pub(crate) fn wide(alloc: Global, rot: Rot) -> Option<Store<RotDisk>>
     }
     match Store::opened(alloc, disk, 0, WIDE) {
         Ok(store) => {
-            let _said = store.meta();
+            store.stands_well();
             Some(store)
         }
         Err(_no_memory) => None,

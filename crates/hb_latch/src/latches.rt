@@ -11,13 +11,14 @@ use crate::Mode;
 use crate::entries::Held;
 use arrayvec::ArrayVec;
 use hb_space::Actor;
+use hb_space::actors::ACTORS;
 use std::marker::Model;
 
 /// How many latches one actor may hold.
 pub const LATCHES: usize = 3;
 
 /// How many latches all actors together hold at most.
-const ROOM: usize = 57;
+const ROOM: usize = LATCHES * ACTORS;
 
 /// The latches that are held.
 #[derive(Debug, Drop)]

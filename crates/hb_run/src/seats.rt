@@ -3,20 +3,9 @@ ghost use Rattle.hb_space.specs.Actors.{IsActor};
 
 use crate::turns::Next;
 use hb_set::Line;
+use hb_space::actors::{CONSOLIDATOR, FLUSHER, POSTER, SESSIONS};
 use hb_space::{Actor, NoMemory};
 use std::alloc::Global;
-
-/// How many sessions there are: actors 1 to 16.
-pub(crate) const SESSIONS: u8 = 16;
-
-/// The actor that posts.
-pub(crate) const POSTER: Actor = 17;
-
-/// The actor that merges.
-pub(crate) const CONSOLIDATOR: Actor = 18;
-
-/// The actor that flushes.
-pub(crate) const FLUSHER: Actor = 19;
 
 /// One who takes turns.
 #[derive(Drop)]

@@ -14,13 +14,8 @@ use hb_activity::JobKind;
 use hb_core::{Core, DropWhy, Outcome};
 use hb_disk::Device;
 use hb_space::Actor;
+use hb_space::actors::{CONSOLIDATOR, POSTER};
 use hb_store::StopWhy;
-
-/// The actor that posts.
-const POSTER: Actor = 17;
-
-/// The actor that merges.
-const CONSOLIDATOR: Actor = 18;
 
 /// Takes steps of the worker for this kind of jobs until none of these waits or is in work.
 pub(crate) fn work_off<D: Device>(core: &mut Core<D>, kind: JobKind) -> Result<(), TidyStop>

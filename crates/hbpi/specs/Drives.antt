@@ -33,7 +33,7 @@ pub record LeavesPrefixes (s : FileState) (d e : DiskModel) (answered : List Ans
   pub clock : after.clock ≡ e.clock
   pub settled : after.stop ≡ None → (t : FileState) × IsEven e t × IsSound t × (contents_of t ≡ result_of (contents_of s) (take (settled_count after) after.order))
 
--- These steps of the 19 actors were taken, each as the table says, from a machine that has taken none over the file of the disk, to this machine; and
+-- These steps of actors were taken, each as the table says, from a machine that has taken none over the file of the disk, to this machine; and
 -- these are its answers, with the disk's clock after each one's step, and the numbers of its order.
 pub record TakesSteps (d e : DiskModel) (k : ℕ) (lines : List Line) (steps : List ℕ) (answered : List Answered) (order : List ℕ) (after : Machine) : Type 0 where
   pub before : Machine

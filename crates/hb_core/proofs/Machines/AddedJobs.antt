@@ -28,6 +28,7 @@ use Rattle.hb_core.specs.Machines.{Machine, sight}
 use Rattle.hb_core.specs.Rows.{Row}
 use Rattle.hb_frag.proofs.Facts.Sides.{same-side_from}
 use Rattle.hb_frag.specs.Leaves.{weight_of}
+use Rattle.hb_frag.specs.Rules.{is_thin}
 use Rattle.hb_frag.specs.Paths.{part_at}
 use Rattle.hb_frag.specs.Trees.{Tree, Tip, Cut}
 use Rattle.hb_ops.specs.Merging.{parent_page}
@@ -115,14 +116,14 @@ owed k page p (Sibling name) same = again k _ (record { level = omega arith; poi
 
 -- a job to merge a thin page
 thin_page : (k : ℕ) (page : LivePage) (p : List ℕ) (capacity : ℕ) → length p ≡ k → JobsFit k (merges_due page p capacity)
-thin_page k page p capacity same = by (nat_le (4 * weight_of (del_page p page).frag) capacity)
+thin_page k page p capacity same = by (is_thin (weight_of (del_page p page).frag) capacity)
   where
     by : (thin : Bool) → JobsFit k (cond thin (record { kind = Merge; level = 1; point = p } ∷ []) [])
     by true = again k _ (record { level = omega arith; point = same })
     by false = nothing k
 
 thin_above : (k : ℕ) (job : Job) (parent : LivePage) (capacity : ℕ) → JobFits k job → JobsFit k (merges_above job parent capacity)
-thin_above k job parent capacity fits = by (nat_le (4 * weight_of parent.frag) capacity)
+thin_above k job parent capacity fits = by (is_thin (weight_of parent.frag) capacity)
   where
     by : (thin : Bool) → JobsFit k (cond thin (record { kind = Merge; level = job.level + 1; point = job.point } ∷ []) [])
     by true = again k _ (record { level = omega arith; point = fits.point })
