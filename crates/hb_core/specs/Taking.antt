@@ -1,15 +1,13 @@
 -- How an idle actor of a core takes a line or a job, and a core that has taken no step.
-use Rattle.std.specs.Prelude.{◌≡◌, ◌≢◌, ◌⊎◌, ℕ, Result, IfOk, IfErr, ◌-◌, ◌+◌, All, List, [], ◌∷◌, ◌++◌, length, take, drop, replicate, Some, None, is_some, if◌then◌else◌, ◌<◌, IfSome, IsSomeAnd}
+use Rattle.std.specs.Prelude.{◌≡◌, ◌≢◌, ◌⊎◌, ℕ, Result, IfOk, IfErr, ◌-◌, ◌+◌, All, List, [], ◌∷◌, ◌++◌, length, take, drop, replicate, Some, None, ◌<◌, IfSome, IsSomeAnd}
 use Rattle.std.specs.List.{slice_get, slice_set}
 use Rattle.std.specs.FinMap as map
-use Rattle.hb_space.specs.declared.actors.TheConstants.{SESSIONS, POSTER, CONSOLIDATOR}
+use Rattle.hb_space.specs.declared.actors.TheConstants.{SESSIONS}
 use Rattle.hb_activity.specs.declared.activities.Activity.{Activity}
 use Rattle.hb_activity.specs.declared.activities.Activity.TheVariants as at
 use Rattle.hb_boxlock.specs.declared.locks.BoxLock.{BoxLock}
 use Rattle.hb_activity.specs.declared.jobs.Job.{Job}
-use Rattle.hb_activity.specs.declared.jobs.JobKind.{JobKind}
 use Rattle.hb_activity.specs.BoxLocks.{lock_of, lock_of_command}
-use Rattle.hb_activity.specs.Classes.{job_in_work}
 use Rattle.hb_activity.specs.declared.jobs.JobKind.TheVariants.{Post, Merge}
 use Rattle.hb_activity.specs.Deeds.{takes_job}
 use Rattle.hb_point.specs.SessionRows.{WantsBoxes, boxes_ahead}
