@@ -11,7 +11,7 @@ ghost use Rattle.hb_space.specs.Boxes.{Area as Extent};
 ghost use Rattle.hb_space.specs.declared.records.Record.{Record as Entry};
 ghost use Rattle.hb_view.specs.Views.{IsLiveAnd};
 
-use crate::{Activity, Job, Next};
+use crate::{Activity, Job, JobKind, Next};
 use hb_view::{LeafView, PageView};
 
 impl Activity {
