@@ -2,19 +2,23 @@
 //! order. Where something is `None`, memory was refused, or the output is none that such a run may have.
 
 use crate::runs::drive_on;
+use hb_disk::{MemDisk, Pick};
 use std::alloc::Global;
 
-/// How many points there may be, and how many lines in a text.
+/// How many points there may be.
 const MOST: usize = 1024;
 
+/// How many lines there may be in a text.
+const LINES: usize = 1040;
+
 /// The body that each point has, which is a number; 0 where it has no record.
-pub type Plain = [usize; MOST];
+pub(crate) type Plain = [usize; MOST];
 
 /// Points without a record.
-pub const EMPTY: Plain = [0; MOST];
+pub(crate) const EMPTY: Plain = [0; MOST];
 
 #[derive(Clone, Copy)]
-pub enum Verb {
+pub(crate) enum Verb {
     Insert,
     Delete,
     Lookup,
@@ -125,9 +129,9 @@ fn effect(plain: &mut Plain, k: u8, command: &Command, body: usize) -> Option<Re
 
 /// The commands of a text, one on each line from line 1 on.
 #[derive(Drop)]
-pub struct Commands {
+pub(crate) struct Commands {
     list: Vec<Command>,
-    pub text: String,
+    pub(crate) text: String,
     /// The number of attributes, 1 or 2.
     k: u8,
     /// A body is this number and that of its line.
@@ -135,7 +139,7 @@ pub struct Commands {
 }
 
 impl Commands {
-    pub fn new(alloc: Global, k: u8, from: usize) -> Commands {
+    pub(crate) fn new(alloc: Global, k: u8, from: usize) -> Commands {
         Commands {
             list: Vec::new(alloc),
             text: String::new(alloc),
@@ -169,7 +173,7 @@ impl Commands {
     }
 
     /// Adds a command.
-    pub fn add(&mut self, session: u8, verb: Verb, place: usize) -> Option<()> {
+    pub(crate) fn add(&mut self, session: u8, verb: Verb, place: usize) -> Option<()> {
         let word = match verb {
             Verb::Insert => "insert",
             Verb::Delete => "delete",
@@ -193,7 +197,7 @@ impl Commands {
     }
 
     /// What the points have behind the first of these commands, one after the other.
-    pub fn behind(&self, count: usize) -> Option<Plain> {
+    pub(crate) fn behind(&self, count: usize) -> Option<Plain> {
         let mut plain = EMPTY;
         for (place, command) in self.list.iter().enumerate().take(count) {
             effect(&mut plain, self.k, command, self.body(place))?;
@@ -204,17 +208,17 @@ impl Commands {
 
 /// What an output says.
 #[derive(Drop)]
-pub struct Told {
+pub(crate) struct Told {
     /// What the points have behind the settled part of the order.
-    pub settled: Plain,
+    pub(crate) settled: Plain,
     /// And behind all of it.
-    pub whole: Plain,
+    pub(crate) whole: Plain,
     /// Whether each line was answered, and all of the order is settled.
-    pub done: bool,
+    pub(crate) done: bool,
     /// What each line in the order has to reply.
-    replies: [Option<Reply>; MOST],
+    replies: [Option<Reply>; LINES],
     /// The lines that were printed.
-    printed: [bool; MOST],
+    printed: [bool; LINES],
     count: usize,
     /// The last line of each session in the order.
     last: [usize; 17],
@@ -229,8 +233,8 @@ impl Told {
             settled: before,
             whole: before,
             done: true,
-            replies: [None; MOST],
-            printed: [false; MOST],
+            replies: [None; LINES],
+            printed: [false; LINES],
             count: 0,
             last: [0; 17],
             wanted: NOTHING,
@@ -338,7 +342,7 @@ impl Told {
 
 /// What the output of these commands says over points that had this. It is `None` where a reply isn't the plain list's over the
 /// printed order, where the order turns two lines of a session round, or where a line is missing or there twice.
-pub fn told_by(commands: &Commands, before: Plain, said: &str) -> Option<Told> {
+pub(crate) fn told_by(commands: &Commands, before: Plain, said: &str) -> Option<Told> {
     let (_, body) = said.split_once(' ')?;
     let (lines, rest) = body.split_once("order")?;
     let mut told = Told::new(before);
@@ -350,19 +354,28 @@ pub fn told_by(commands: &Commands, before: Plain, said: &str) -> Option<Told> {
     Some(told)
 }
 
-/// Lookups of the points below this place, and steps enough for them.
+/// Lookups of the points below this place and a search of the whole space, with steps enough for them.
 fn lookups(alloc: Global, k: u8, places: usize) -> Option<Commands> {
     let mut commands = Commands::new(alloc, k, 0);
     for place in 0..places {
         commands.add(1, Verb::Lookup, place)?;
     }
-    let steps = places.wrapping_mul(16);
+    commands.add(1, Verb::Whole, 0)?;
+    let steps = places.wrapping_mul(16).wrapping_add(2000);
     write!(commands.text, "step 1x{steps}\n").ok()?;
     Some(commands)
 }
 
-/// Whether a file opens with one of two sets of records, below this place.
-pub fn holds(
+/// Whether these commands were all answered as over points that had this.
+fn is_told(commands: &Commands, plain: Plain, said: &str) -> bool {
+    match told_by(commands, plain, said) {
+        Some(told) => told.done,
+        None => false,
+    }
+}
+
+/// Whether a file opens with one of two sets of records, all of them below this place.
+pub(crate) fn holds(
     alloc: Global,
     file: &[u8],
     k: u8,
@@ -372,12 +385,24 @@ pub fn holds(
 ) -> Option<bool> {
     let commands = lookups(alloc, k, places)?;
     let left = drive_on(alloc, commands.text.as_str(), file)?;
-    for &plain in &[one, other] {
-        if let Some(told) = told_by(&commands, plain, left.said.as_str()) {
-            if told.done {
-                return Some(true);
-            }
+    let said = left.said.as_str();
+    Some(is_told(&commands, one, said) || is_told(&commands, other, said))
+}
+
+/// Whether what a crash before this call may have left of a file of one attribute opens so, for each of three images.
+pub(crate) fn all_hold(
+    alloc: Global,
+    disk: &MemDisk,
+    before: u64,
+    places: usize,
+    one: Plain,
+    other: Plain,
+) -> Option<bool> {
+    for &pick in &[Pick::Old, Pick::New, Pick::Noise(165)] {
+        let image = disk.image(before, pick).ok()??;
+        if !holds(alloc, image.as_slice(), 1, places, one, other)? {
+            return Some(false);
         }
     }
-    Some(false)
+    Some(true)
 }
