@@ -1,5 +1,6 @@
-//! Texts by hand and by a plain program. Where something is `None`, memory was refused.
+//! Generated texts, by hand and by a plain program. Where something is `None`, memory was refused.
 
+use crate::rows::expect;
 use hb_gen::generate;
 use hb_space::Attributes;
 use std::alloc::Global;
@@ -63,9 +64,9 @@ fn gives(alloc: Global, state: u64, lines: u32, attributes: u8, want: &str) -> O
 
 #[test]
 fn short_texts(rt: HostRuntime) {
-    for &(state, lines, attributes, want) in &SHORT {
+    for (place, &(state, lines, attributes, want)) in SHORT.iter().enumerate() {
         let right = gives(rt.alloc(), state, lines, attributes, want);
-        assert!(rt; right == Some(true), "{want}");
+        expect(&rt, place, right == Some(true));
     }
 }
 
@@ -92,11 +93,8 @@ fn told(alloc: Global, state: u64, lines: u32, attributes: u8) -> Option<(usize,
 
 #[test]
 fn long_texts(rt: HostRuntime) {
-    for &(state, lines, attributes, length, sum) in &LONG {
+    for (place, &(state, lines, attributes, length, sum)) in LONG.iter().enumerate() {
         let right = told(rt.alloc(), state, lines, attributes);
-        assert!(rt;
-            right == Some((length, sum)),
-            "{state} {lines} {attributes}"
-        );
+        expect(&rt, place, right == Some((length, sum)));
     }
 }

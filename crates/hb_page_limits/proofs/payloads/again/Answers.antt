@@ -4,7 +4,7 @@ use Rattle.std.proofs.lemmas.List.Elements.{All-from_recursion, recursion_from_A
 use Rattle.hb_log_codec.specs.declared.groups.Group.{Group}
 use Rattle.hb_log_codec.specs.Groups.{FitsGroup}
 use Rattle.hb_log_codec.specs.Reading.{logged}
-use Rattle.hb_page_limits.proofs.payloads.read.Goals as goal
+use Rattle.hb_page_limits.proofs.payloads.again.Goals as goal
 
 each_fits : (k : ℕ) → (groups : List Group) → AllByRecursion (FitsGroup k) (map logged groups) → AllByRecursion (λ g. FitsGroup k (logged g)) groups
 each_fits k [] all = tt
