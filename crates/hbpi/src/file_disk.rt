@@ -86,7 +86,7 @@ fn zero_piece(file: &File, at: u64, piece: &mut [u8], is_whole: bool) -> io::Res
 }
 
 /// Makes so many bytes from a place of the file on zero, where it has a block for each of its bytes or not.
-fn zero_at(file: &File, at: u64, len: u64, is_whole: bool) -> io::Result<()>
+pub(crate) fn zero_at(file: &File, at: u64, len: u64, is_whole: bool) -> io::Result<()>
     requires { at + len ≤ last_value }
 {
     let mut piece = [0; PIECE];
