@@ -7,7 +7,6 @@ pub mod Files
 pub mod Orders
 pub mod TwoSteps
 pub mod Machines
-pub mod Chains
 pub mod Searches
 pub mod Running
 pub mod Facts

@@ -59,14 +59,3 @@ pub mod Runs
 pub mod MomentLaws
 pub mod ProgressLaws
 pub mod Examples
-pub mod Scenes
-pub mod OneInsert
-pub mod ChainOfTwo
-pub mod ChainOfPosting
-pub mod ChainBesidePoster
-pub mod ChainOfNewTurn
-pub mod ChainOfCommands
-pub mod ChainOfFreePage
-pub mod ChainOfMerging
-pub mod ChainOfReadFault
-pub mod ChainOfThreePages

@@ -44,7 +44,6 @@ mod stepping;
 mod threads;
 pub mod waiting_laws;
 mod working;
-pub mod written_chains;
 
 pub use copies::CopyStop;
 pub use counts::TidyCounts;

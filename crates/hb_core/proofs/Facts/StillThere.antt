@@ -62,7 +62,7 @@ module _ (m : Machine) (may : ℕ → Type 0) (fetched : StoreState) (inside : H
   fetched_fits id page live = subst (λ (meta : Meta). FitsFile meta page) (sym (ap (λ (s : StoreState). s.meta) brings.rest)) (fetched_good id page live).1
 
 module _ (m : Machine) (actor : ℕ) (outcome : Outcome) (new : Machine) (latches : IsActor actor) (fit : LatchesFit m) (inside : HoldsPagesOfFile m) (step : StepsTo m actor outcome new) (other : ℕ) (another : other ≢ actor) (may : IsActor other) where
-  latched_stays : (id : ℕ) (mode : Mode) (page : LivePage) → mode_at m.latches other id ≡ Some mode → live_here m.store id ≡ Some page → live_here new.store id ≡ Some page
+  latched_stays : (id : ℕ) (mode : Mode) (page : LivePage) → modes m other id ≡ Some mode → live_here m.store id ≡ Some page → live_here new.store id ≡ Some page
   latched_stays id mode page holds live = ap if_live (held_pages_stay m actor outcome new latches fit inside step other id mode page another holds (live_so (in_memory m.store id) page live))
 
   -- what it has latched stays

@@ -37,7 +37,7 @@ pub record KeepsAllButDisk (m new : Machine) : Type 0 where
   pub lines : new.lines ≡ m.lines
   pub answered : new.answered ≡ m.answered
   pub activity : new.activity ≡ m.activity
-  pub latches : new.latches ≡ m.latches
+  pub latches : new.latches ≡ (modes m)
   pub jobs : new.jobs ≡ m.jobs
   pub order : new.order ≡ m.order
   pub memory : (id : ℕ) (page : Page) → MustStay m id → in_memory m.store id ≡ Some page → in_memory new.store id ≡ Some page
@@ -109,7 +109,7 @@ way_of m actor outcome new step =
 pub others_stay : OthersStay
 others_stay m actor outcome new step other another = by (way_of m actor outcome new step)
   where
-    by : HasWay m actor outcome new → (new.activity other ≡ m.activity other) × ((page : ℕ) → mode_at new.latches other page ≡ mode_at m.latches other page)
+    by : HasWay m actor outcome new → (new.activity other ≡ m.activity other) × ((page : ℕ) → modes new other page ≡ modes m other page)
     by (inl keeps) = (ap (λ (all : ℕ → Activity). all other) keeps.activity, λ page. ap (λ (table : LatchTable). mode_at table other page) keeps.latches)
     by (inr (fetched, deed, performs)) = (
       others_next actor deed.next m.activity new.activity performs.activity other another,

@@ -55,7 +55,7 @@ pub record IsWantedFreely (m : Machine) (actor page : ℕ) (mode : Mode) : Type 
   pub free : HasWayFree m actor
 
 abbrev pub ComesFrom : Machine → ℕ → ℕ → Mode → Type 0
-ComesFrom m actor page mode = (mode_at m.latches actor page ≡ Some mode) ⊎ IsWantedFreely m actor page mode ⊎ IsAnew m page
+ComesFrom m actor page mode = (modes m actor page ≡ Some mode) ⊎ IsWantedFreely m actor page mode ⊎ IsAnew m page
 
 pub record IsBacked (m : Machine) (actor : ℕ) (st : StoreState) (page : ℕ) (mode : Mode) : Type 0 where
   pub from : ComesFrom m actor page mode
@@ -134,13 +134,13 @@ module _ (m : Machine) (actor : ℕ) (may : ℕ → Type 0) (fetched : StoreStat
   backed_deed deed other is backed = subst (λ (d : Deed). BackedIn m actor new d.next) (sym is) backed
 
   -- what was held stays in use where nothing is done
-  pub held_backed : (page : ℕ) (mode : Mode) → new ≡ fetched → mode_at m.latches actor page ≡ Some mode → IsBacked m actor new page mode
+  pub held_backed : (page : ℕ) (mode : Mode) → new ≡ fetched → modes m actor page ≡ Some mode → IsBacked m actor new page mode
   held_backed page mode none holds =
       let used = fit.used actor page mode holds in
       let there : IsSome (in_memory m.store page) = subst (λ (o : Option Page). IsSome o) (sym used.1) refl in
       record { from = inl holds; live = used.0; there = ap (λ (st : StoreState). in_memory st page) none ∙ brings.stays page (inl (actor, mode, holds)) there ∙ used.1 }
 
-  pub own_mode : (activity : Activity) (page : ℕ) (mode : Mode) → m.activity actor ≡ activity → mode_among page (latches_held m.store activity) ≡ Some mode → mode_at m.latches actor page ≡ Some mode
+  pub own_mode : (activity : Activity) (page : ℕ) (mode : Mode) → m.activity actor ≡ activity → mode_among page (latches_held m.store activity) ≡ Some mode → modes m actor page ≡ Some mode
   own_mode activity page mode is among = fit.exact actor page latches ∙ subst (λ (a : Activity). mode_among page (latches_held m.store a) ≡ Some mode) (sym is) among
 
   -- the page that was latched

@@ -68,13 +68,13 @@ walk_latched activity st held page is live = cc
 
 module _ (mutual_modes : (mode other : Mode) → goes_beside mode other ≡ goes_beside other mode) (m : Machine) (actor : ℕ) (outcome : Outcome) (new : Machine) (latches : IsActor actor) (fit : LatchesFit m) (inside : HoldsPagesOfFile m) (step : StepsTo m actor outcome new) where
   -- another actor's page stays
-  others_page : (other page : ℕ) (mode : Mode) → other ≢ actor → mode_at m.latches other page ≡ Some mode → (live : LivePage) × (in_memory new.store page ≡ Some (Live live))
+  others_page : (other page : ℕ) (mode : Mode) → other ≢ actor → modes m other page ≡ Some mode → (live : LivePage) × (in_memory new.store page ≡ Some (Live live))
   others_page other page mode another holds =
       let used = fit.used other page mode holds in
       (used.0, held_pages_stay m actor outcome new latches fit inside step other page mode used.0 another holds used.1)
 
   -- and so what its activity says of its latches
-  walks_latch : (other held : ℕ) (live : LivePage) → IsActor other → walk_held (m.activity other) ≡ Some held → in_memory m.store held ≡ Some (Live live) → (mode : Mode) × (mode_at m.latches other held ≡ Some mode)
+  walks_latch : (other held : ℕ) (live : LivePage) → IsActor other → walk_held (m.activity other) ≡ Some held → in_memory m.store held ≡ Some (Live live) → (mode : Mode) × (modes m other held ≡ Some mode)
   walks_latch other held live may walks there =
       let latched = walk_latched (m.activity other) m.store held live walks (ap if_live there) in
       (latched.0, fit.exact other held may ∙ latched.1)
@@ -85,7 +85,7 @@ module _ (mutual_modes : (mode other : Mode) → goes_beside mode other ≡ goes
       let latch = walks_latch other held old.0 may walks old.1 in
       (old.0, old.1, held_pages_stay m actor outcome new latches fit inside step other held latch.0 old.0 another latch.1 old.1)
 
-  others_exact : (other page : ℕ) → other ≢ actor → IsActor other → mode_at new.latches other page ≡ mode_at m.latches other page → new.activity other ≡ m.activity other → mode_at new.latches other page ≡ mode_among page (latches_held new.store (new.activity other))
+  others_exact : (other page : ℕ) → other ≢ actor → IsActor other → modes new other page ≡ modes m other page → new.activity other ≡ m.activity other → modes new other page ≡ mode_among page (latches_held new.store (new.activity other))
   others_exact other page another may table activity =
       let same : latches_held new.store (m.activity other) ≡ latches_held m.store (m.activity other) = same_latches (m.activity other) m.store new.store (λ held walks. let both = others_walk other held another may walks in ap if_live both.2 ∙ sym (ap if_live both.1)) in
       table ∙ fit.exact other page may ∙ sym (ap (mode_among page) same) ∙ sym (ap (λ (a : Activity). mode_among page (latches_held new.store a)) activity)
@@ -109,42 +109,42 @@ module _ (mutual_modes : (mode other : Mode) → goes_beside mode other ≡ goes
   }
 
   -- a deed is done
-  module _ (deed : Deed) (own : (page : ℕ) → mode_at new.latches actor page ≡ mode_among page (latches_held new.store deed.next)) (rest : (other page : ℕ) → other ≢ actor → mode_at new.latches other page ≡ mode_at m.latches other page)
+  module _ (deed : Deed) (own : (page : ℕ) → modes new actor page ≡ mode_among page (latches_held new.store deed.next)) (rest : (other page : ℕ) → other ≢ actor → modes new other page ≡ modes m other page)
       (stood : (other : ℕ) → new.activity other ≡ with_activity actor deed.next m.activity other) (backed : BackedIn m actor new.store deed.next) where
-    beside : (other page : ℕ) (mode held : Mode) → other ≢ actor → mode_at new.latches actor page ≡ Some mode → mode_at new.latches other page ≡ Some held → IsTrue (goes_beside mode held)
+    beside : (other page : ℕ) (mode held : Mode) → other ≢ actor → modes new actor page ≡ Some mode → modes new other page ≡ Some held → IsTrue (goes_beside mode held)
     beside other page mode held another mine holds =
         beside_from m actor fit other page mode held another (backed.latches page mode (sym (own page) ∙ mine)).from (sym (rest other page another) ∙ holds)
 
-    two_apart : (a b page : ℕ) (mode held : Mode) → a ≢ b → mode_at new.latches a page ≡ Some mode → mode_at new.latches b page ≡ Some held → IsTrue (goes_beside mode held)
+    two_apart : (a b page : ℕ) (mode held : Mode) → a ≢ b → modes new a page ≡ Some mode → modes new b page ≡ Some held → IsTrue (goes_beside mode held)
     two_apart a b page mode held differ first second = elim (cases_Bool (a == actor)) [
       | inl a_is ↦
           let is = eqb-true a actor a_is in
-          beside b page mode held (λ same. differ (is ∙ sym same)) (ap (λ (n : ℕ). mode_at new.latches n page) (sym is) ∙ first) second
+          beside b page mode held (λ same. differ (is ∙ sym same)) (ap (λ (n : ℕ). modes new n page) (sym is) ∙ first) second
       | inr a_not ↦ elim (cases_Bool (b == actor)) [
         | inl b_is ↦
             let is = eqb-true b actor b_is in
-            mutual_modes mode held ∙ beside a page held mode (eqb-false a actor a_not) (ap (λ (n : ℕ). mode_at new.latches n page) (sym is) ∙ second) first
+            mutual_modes mode held ∙ beside a page held mode (eqb-false a actor a_not) (ap (λ (n : ℕ). modes new n page) (sym is) ∙ second) first
         | inr b_not ↦
             let both = fit.compatible a b page differ in
             let mine = sym (rest a page (eqb-false a actor a_not)) ∙ first in
             let other = sym (rest b page (eqb-false b actor b_not)) ∙ second in
-            at_value (mode_at m.latches b page) (λ held. IsTrue (goes_beside mode held)) held other (at_value (mode_at m.latches a page) (λ mode. IfSome (mode_at m.latches b page) (λ held. IsTrue (goes_beside mode held))) mode mine both)
+            at_value (modes m b page) (λ held. IsTrue (goes_beside mode held)) held other (at_value (modes m a page) (λ mode. IfSome (modes m b page) (λ held. IsTrue (goes_beside mode held))) mode mine both)
       ]
     ]
 
     deed_fits : LatchesFit new
     deed_fits = record {
-      compatible = λ a b page differ. if_value (mode_at new.latches a page) _ (λ mode first. if_value (mode_at new.latches b page) _ (λ held second. two_apart a b page mode held differ first second));
+      compatible = λ a b page differ. if_value (modes new a page) _ (λ mode first. if_value (modes new b page) _ (λ held second. two_apart a b page mode held differ first second));
       exact = λ a page may. elim (cases_Bool (a == actor)) [
         | inl a_is ↦
             let is = eqb-true a actor a_is in
-            subst (λ (n : ℕ). mode_at new.latches n page ≡ mode_among page (latches_held new.store (new.activity n))) (sym is) (own page ∙ sym (ap (λ (next : Activity). mode_among page (latches_held new.store next)) (own_next actor deed.next m.activity new.activity stood)))
+            subst (λ (n : ℕ). modes new n page ≡ mode_among page (latches_held new.store (new.activity n))) (sym is) (own page ∙ sym (ap (λ (next : Activity). mode_among page (latches_held new.store next)) (own_next actor deed.next m.activity new.activity stood)))
         | inr a_not ↦ let another = eqb-false a actor a_not in others_exact a page another may (rest a page another) (others_next actor deed.next m.activity new.activity stood a another)
       ];
       used = λ a page mode holds. elim (cases_Bool (a == actor)) [
         | inl a_is ↦
             let is = eqb-true a actor a_is in
-            let backing = backed.latches page mode (sym (own page) ∙ ap (λ (n : ℕ). mode_at new.latches n page) (sym is) ∙ holds) in
+            let backing = backed.latches page mode (sym (own page) ∙ ap (λ (n : ℕ). modes new n page) (sym is) ∙ holds) in
             (backing.live, backing.there)
         | inr a_not ↦ let another = eqb-false a actor a_not in others_page a page mode another (sym (rest a page another) ∙ holds)
       ];

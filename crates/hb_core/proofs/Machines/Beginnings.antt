@@ -113,7 +113,7 @@ module _ (m : Machine) (begun : IsBegun m) where
   no_answer : (number : ℕ) → IsTrue (is_answered number m.answered) → ⊥
   no_answer number has = cc (subst (λ (l : List Answered). IsTrue (is_answered number l)) begun.unanswered has)
 
-  no_mode : (actor page : ℕ) (mode : Mode) → mode_at m.latches actor page ≡ Some mode → ⊥
+  no_mode : (actor page : ℕ) (mode : Mode) → modes m actor page ≡ Some mode → ⊥
   no_mode actor page mode some = let never : None ≡ Some mode = sym (begun.unlatched actor page) ∙ some in cc never
 
   no_group : m.store.log.groups ≡ []
@@ -176,7 +176,7 @@ module _ (m : Machine) (begun : IsBegun m) where
 
   latches_begin : LatchesFit m
   latches_begin = record {
-    compatible = λ actor other page apart. subst (λ (o : Option Mode). IfSome o (λ mode. IfSome (mode_at m.latches other page) (λ held. IsTrue (goes_beside mode held)))) (sym (begun.unlatched actor page)) tt;
+    compatible = λ actor other page apart. subst (λ (o : Option Mode). IfSome o (λ mode. IfSome (modes m other page) (λ held. IsTrue (goes_beside mode held)))) (sym (begun.unlatched actor page)) tt;
     exact = λ actor page may. begun.unlatched actor page ∙ of_each (λ a. None ≡ mode_among page (latches_held m.store a)) (record { session = refl; poster = refl; consolidator = refl; flusher = refl }) actor;
     used = λ actor page mode holds. absurd (no_mode actor page mode holds);
     walking = λ actor held may walks. absurd (of_each _ (holds_or_not held) actor walks);

@@ -48,7 +48,7 @@ use Rattle.hb_core.specs.Working.{MayGoOn}
 
 -- the pages that somebody holds are there as they were
 abbrev pub HeldStay : Machine → StoreState → Type 0
-HeldStay m st = (actor id : ℕ) (mode : Mode) → mode_at m.latches actor id ≡ Some mode → IsSome (in_memory m.store id) → in_memory st id ≡ in_memory m.store id
+HeldStay m st = (actor id : ℕ) (mode : Mode) → modes m actor id ≡ Some mode → IsSome (in_memory m.store id) → in_memory st id ≡ in_memory m.store id
 
 module _ (m : Machine) (jobs : List Job) (st : StoreState) (uses : List Use) (stop : Option StopWhy) where
   abbrev pub beside : Machine
@@ -57,7 +57,7 @@ module _ (m : Machine) (jobs : List Job) (st : StoreState) (uses : List Use) (st
   module _ (keeps : MachineKeeps m) (rest : KeepsAllButPages m.store st) (held : HeldStay m st) where
     -- ---- what an actor holds
 
-    latched_same : (actor id : ℕ) (mode : Mode) → mode_at m.latches actor id ≡ Some mode → live_here st id ≡ live_here m.store id
+    latched_same : (actor id : ℕ) (mode : Mode) → modes m actor id ≡ Some mode → live_here st id ≡ live_here m.store id
     latched_same actor id mode holds =
         let used = keeps.latches_fit.used actor id mode holds in
         ap if_live (held actor id mode holds (has_value (in_memory m.store id) (Live used.0) used.1))
@@ -180,7 +180,7 @@ module _ (m : Machine) (jobs : List Job) (st : StoreState) (uses : List Use) (st
     marks = subst (λ (groups : List Waiting). MarksRise (record beside { store = record st { log = record st.log { groups = groups } } })) same_groups
         (record { rising = keeps.marks_rise.rising; inside = keeps.marks_rise.inside })
 
-    pub beside_keeps : JobsFit m.store.meta.k jobs → HoldsPagesOfFile beside → FramesFit st uses m.latches → RunsWithStore beside → MachineKeeps beside
+    pub beside_keeps : JobsFit m.store.meta.k jobs → HoldsPagesOfFile beside → FramesFit st uses (modes m) → RunsWithStore beside → MachineKeeps beside
     beside_keeps fit pages frames runs = record {
       meta_within_limits = limits;
       log_in_place = in_place;
@@ -259,7 +259,7 @@ module _ (m : Machine) (id : ℕ) (new : Machine) (looks : PageComes id m new) w
   pages_looked : MachineKeeps m → HoldsPagesOfFile looked
   pages_looked keeps = pages_kept looked (brought m (λ other. other ≡ id) new.store looks.brings (keeps_pages m keeps.meta_within_limits keeps.pages_of_file))
 
-  frames_looked : MachineKeeps m → FramesFit new.store new.uses m.latches
+  frames_looked : MachineKeeps m → FramesFit new.store new.uses (modes m)
   frames_looked keeps = record {
     tied = looks.tied;
     pins = λ q. ap (λ (l : List Use). pins_of l q) looks.uses ∙ fetched_pins id m.uses keeps.frames_fit.tied.pool.distinct q ∙ keeps.frames_fit.pins q;

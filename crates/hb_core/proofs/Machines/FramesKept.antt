@@ -38,10 +38,10 @@ use Rattle.hb_space.specs.Actors.{IsActor}
 use Rattle.hb_core.proofs.Facts.Ways.{own_next}
 
 abbrev FitsNow : Machine → Type 0
-FitsNow m = FramesFit m.store m.uses m.latches
+FitsNow m = FramesFit m.store m.uses (modes m)
 
 module _ (m : Machine) (actor : ℕ) (outcome : Outcome) (new : Machine) (may : IsActor actor) (keeps : MachineKeeps m) where
-  fit : FramesFit m.store m.uses m.latches
+  fit : FramesFit m.store m.uses (modes m)
   fit = keeps.frames_fit
 
   single : IsSingle m.uses
@@ -51,7 +51,7 @@ module _ (m : Machine) (actor : ℕ) (outcome : Outcome) (new : Machine) (may : 
   abbrev held : List Latch
   held = latches_held m.store (m.activity actor)
 
-  held_once : (q : ℕ) → times q (pages_of held) ≡ one_if (IsLatched m.latches actor q)
+  held_once : (q : ℕ) → times q (pages_of held) ≡ one_if (IsLatched (modes m) actor q)
   held_once q =
       latches_once m.store (m.activity actor) (keeps.walk_in_space.merging actor) (known_apart m keeps.room_known actor) q
       ∙ ap (λ (o : Option Mode). one_if (is_some o)) (sym (keeps.latches_fit.exact actor q may))
@@ -120,7 +120,7 @@ module _ (m : Machine) (actor : ℕ) (outcome : Outcome) (new : Machine) (may : 
           let was = fit.pins q in
           let before = held_once q in
           let now : times q (pages_of after) ≡ one_if (IsLatched new.latches actor q) = once q ∙ ap (λ (o : Option Mode). one_if (is_some o)) (sym (performs.latches.own q)) in
-          let holding = holders_moved actor m.latches new.latches may (λ other page apart. performs.latches.others other page apart) q in
+          let holding = holders_moved actor (modes m) new.latches may (λ other page apart. performs.latches.others other page apart) q in
           let changes = holding.0 in
           let least = holding.1 in
           omega (arith, moved, was, before, now, changes, least);
@@ -170,5 +170,5 @@ frames_kept m actor outcome new may keeps step =
     step
 
 -- and where no step was taken
-pub frames_begun : (m : Machine) → IsBegun m → FramesFit m.store m.uses m.latches
-frames_begun m begun = record { tied = begun.tied; pins = λ id. begun.unpinned id ∙ sym (none_holds m.latches id (λ actor. begun.unlatched actor id)) }
+pub frames_begun : (m : Machine) → IsBegun m → FramesFit m.store m.uses (modes m)
+frames_begun m begun = record { tied = begun.tied; pins = λ id. begun.unpinned id ∙ sym (none_holds (modes m) id (λ actor. begun.unlatched actor id)) }

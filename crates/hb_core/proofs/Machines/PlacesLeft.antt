@@ -125,24 +125,24 @@ module _ (m : Machine) (keeps : MachineKeeps m) where
   single : IsSingle m.uses
   single = keeps.frames_fit.tied.pool.distinct
 
-  actor_holds : (actor : ℕ) → count_by (λ (u : Use). is_some (mode_at m.latches actor u.id)) m.uses ≤ 2
+  actor_holds : (actor : ℕ) → count_by (λ (u : Use). is_some (modes m actor u.id)) m.uses ≤ 2
   actor_holds actor = elim (may_or_not actor) [
     | inl may ↦
         let latches = latches_held m.store (m.activity actor) in
-        let same = alike (λ (u : Use). is_some (mode_at m.latches actor u.id)) (among latches) m.uses (λ u. ap (λ (o : Option Mode). is_some o) (keeps.latches_fit.exact actor u.id may)) in
+        let same = alike (λ (u : Use). is_some (modes m actor u.id)) (among latches) m.uses (λ u. ap (λ (o : Option Mode). is_some o) (keeps.latches_fit.exact actor u.id may)) in
         let most = latched_frames m.uses single latches in
         let two : length latches ≤ 2 = two_at_most (m.activity actor) _ in
         omega (arith, same, most, two)
     | inr none ↦
-        let same = alike (λ (u : Use). is_some (mode_at m.latches actor u.id)) (λ u. false) m.uses (λ u. ap (λ (o : Option Mode). is_some o) (keeps.no_other_latches actor u.id none)) in
+        let same = alike (λ (u : Use). is_some (modes m actor u.id)) (λ u. false) m.uses (λ u. ap (λ (o : Option Mode). is_some o) (keeps.no_other_latches actor u.id none)) in
         let nothing = none_among m.uses in
         omega (arith, same, nothing)
   ]
 
   few_stay : oldest_dirty m.uses ≡ None → count_by must_stay m.uses ≤ 38
   few_stay clean =
-      let stay = stays_counted (holders m.latches) m.uses (none_dirty m.uses clean) (λ q. let pins = keeps.frames_fit.pins q in let all = single_sum q m.uses (single q) in omega (arith, pins, all)) in
-      let most : sum_by (λ u. holders m.latches u.id) m.uses ≤ 2 * length actors = by_actors (λ actor q. is_some (mode_at m.latches actor q)) m.uses actor_holds actors in
+      let stay = stays_counted (holders (modes m)) m.uses (none_dirty m.uses clean) (λ q. let pins = keeps.frames_fit.pins q in let all = single_sum q m.uses (single q) in omega (arith, pins, all)) in
+      let most : sum_by (λ u. holders (modes m) u.id) m.uses ≤ 2 * length actors = by_actors (λ actor q. is_some (modes m actor q)) m.uses actor_holds actors in
       omega (arith, stay, most)
 
 pub places_are_left : PlacesAreLeft

@@ -46,7 +46,7 @@ module _ (m : Machine) (may : ℕ → Type 0) (fetched : StoreState) (brings : B
       ap if_live (same_there id (Live page) (Live now) sure (live_so (in_memory m.store id) page was) (live_so (in_memory fetched id) now is)) ∙ was
 
   -- a page that somebody holds stays
-  pub still_held : (actor id : ℕ) (mode : Mode) (page : Page) → mode_at m.latches actor id ≡ Some mode → in_memory m.store id ≡ Some page → in_memory fetched id ≡ Some page
+  pub still_held : (actor id : ℕ) (mode : Mode) (page : Page) → modes m actor id ≡ Some mode → in_memory m.store id ≡ Some page → in_memory fetched id ≡ Some page
   still_held actor id mode page holds was = brings.stays id (inl (actor, mode, holds)) (has_value (in_memory m.store id) page was) ∙ was
 
   -- so a page in use stays that an actor has latched where it stands

@@ -142,17 +142,17 @@ beside_none Shared is = false≢true is
 beside_none Update is = false≢true is
 beside_none Exclusive is = false≢true is
 
-module _ (m : Machine) (actor other id : ℕ) (fit : LatchesFit m) (another : other ≢ actor) (mode : Mode) (holds : mode_at m.latches other id ≡ Some mode) where
-  not_held : mode_at m.latches actor id ≡ Some Exclusive → ⊥
+module _ (m : Machine) (actor other id : ℕ) (fit : LatchesFit m) (another : other ≢ actor) (mode : Mode) (holds : modes m other id ≡ Some mode) where
+  not_held : modes m actor id ≡ Some Exclusive → ⊥
   not_held own =
-      let both : IfSome (mode_at m.latches actor id) (λ mode. IfSome (mode_at m.latches other id) (λ held. IsTrue (goes_beside mode held))) = fit.compatible actor other id (λ same. another (sym same)) in
-      let mine = subst (λ (o : Option Mode). IfSome o (λ mode. IfSome (mode_at m.latches other id) (λ held. IsTrue (goes_beside mode held)))) own both in
+      let both : IfSome (modes m actor id) (λ mode. IfSome (modes m other id) (λ held. IsTrue (goes_beside mode held))) = fit.compatible actor other id (λ same. another (sym same)) in
+      let mine = subst (λ (o : Option Mode). IfSome o (λ mode. IfSome (modes m other id) (λ held. IsTrue (goes_beside mode held)))) own both in
       beside_none mode (subst (λ (o : Option Mode). IfSome o (λ held. IsTrue (goes_beside Exclusive held))) holds mine)
 
   not_taken : TakesAlone m actor id → ⊥
   not_taken takes =
-      let grants : IsGrantable m.latches actor takes.wanted.page takes.wanted.mode = subst (λ (o : Option Wanted). IfSome o (λ wanted. IsGrantable m.latches actor wanted.page wanted.mode)) takes.wants takes.free in
-      let here : IfSome (mode_at m.latches other id) (λ held. IsTrue (goes_beside takes.wanted.mode held)) = subst (λ (n : ℕ). IfSome (mode_at m.latches other n) (λ held. IsTrue (goes_beside takes.wanted.mode held))) takes.page (grants other another) in
+      let grants : IsGrantable (modes m) actor takes.wanted.page takes.wanted.mode = subst (λ (o : Option Wanted). IfSome o (λ wanted. IsGrantable (modes m) actor wanted.page wanted.mode)) takes.wants takes.free in
+      let here : IfSome (modes m other id) (λ held. IsTrue (goes_beside takes.wanted.mode held)) = subst (λ (n : ℕ). IfSome (modes m other n) (λ held. IsTrue (goes_beside takes.wanted.mode held))) takes.page (grants other another) in
       let mine = subst (λ (o : Option Mode). IfSome o (λ held. IsTrue (goes_beside takes.wanted.mode held))) holds here in
       beside_none mode (subst (λ (own : Mode). IsTrue (goes_beside own mode)) takes.mode mine)
 

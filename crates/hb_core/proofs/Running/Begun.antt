@@ -94,7 +94,7 @@ begun_shows d m lines steps store uses begun lines_so store_so uses_so tells sil
   all_actors = refl;
   activities = λ actor may. stands_at_rest actor may ∙ ap Some (sym (begun.idle actor));
   nobody_else = (beginning_keeps m begun).nobody_else;
-  latches = unlatched_is m.latches begun.unlatched;
+  latches = unlatched_is (modes m) begun.unlatched;
   jobs = begun.no_job;
   order = ap (λ (es : List Entry). map (λ (e : Entry). e.line.number) es) begun.no_order;
   stop = begun.runs;

@@ -54,13 +54,13 @@ wanted_here wants old uses pinned wanted is =
     pinned_here uses wanted.page (omega (arith, more, here))
 
 -- who has latched a page counts
-pub latched_counts : (m : Machine) (keeps : MachineKeeps m) (actor id : ℕ) (mode : Mode) → mode_at m.latches actor id ≡ Some mode → 0 < holders m.latches id
+pub latched_counts : (m : Machine) (keeps : MachineKeeps m) (actor id : ℕ) (mode : Mode) → modes m actor id ≡ Some mode → 0 < holders (modes m) id
 latched_counts m keeps actor id mode holds = elim (may_or_not actor) [
   | inl may ↦
-      let own : one_if (is_some (mode_at m.latches actor id)) ≡ 1 = ap (λ (o : Option Mode). one_if (is_some o)) holds in
-      let least = (holders_moved actor m.latches m.latches may (λ other page apart. refl) id).1 in
+      let own : one_if (is_some (modes m actor id)) ≡ 1 = ap (λ (o : Option Mode). one_if (is_some o)) holds in
+      let least = (holders_moved actor (modes m) (modes m) may (λ other page apart. refl) id).1 in
       omega (arith, own, least)
-  | inr none ↦ absurd (not_none (mode_at m.latches actor id) mode holds (keeps.no_other_latches actor id none))
+  | inr none ↦ absurd (not_none (modes m actor id) mode holds (keeps.no_other_latches actor id none))
 ]
 
 pub must_here : (m : Machine) (st : StoreState) (uses : List Use) → MachineKeeps m → st.dirty ≡ m.store.dirty → IsTied st uses → ((q : ℕ) → pins_of m.uses q ≤ pins_of uses q) → (id : ℕ) → MustStay m id → StaysHere uses id
@@ -105,5 +105,5 @@ pub may_pin : (m : Machine) (keeps : MachineKeeps m) (id : ℕ) (uses : List Use
 may_pin m keeps id uses is = subst (λ (l : List Use). IsSomeAnd (frame_of l id) (λ (u : Use). u.pins < 255)) (sym is)
     (let same = fetched_pins id m.uses keeps.frames_fit.tied.pool.distinct id in
     let pins = keeps.frames_fit.pins id in
-    let few = few_hold m.latches id in
+    let few = few_hold (modes m) id in
     few_pins (use_fetched id m.uses) id (fetched_there id m.uses) (omega (arith, same, pins, few)))

@@ -69,8 +69,8 @@ pub held_pinned : (m : Machine) (actor : ℕ) → IsActor actor → MachineKeeps
 held_pinned m actor may keeps q =
     let once : times q (pages_of (latches_held m.store (m.activity actor))) ≡ one_if (is_some (mode_among q (latches_held m.store (m.activity actor)))) =
     latches_once m.store (m.activity actor) (keeps.walk_in_space.merging actor) (known_apart m keeps.room_known actor) q in
-    let exact : one_if (is_some (mode_at m.latches actor q)) ≡ one_if (is_some (mode_among q (latches_held m.store (m.activity actor)))) = ap (λ (o : Option Mode). one_if (is_some o)) (keeps.latches_fit.exact actor q may) in
-    let least = (holders_moved actor m.latches m.latches may (λ other page apart. refl) q).1 in
+    let exact : one_if (is_some (modes m actor q)) ≡ one_if (is_some (mode_among q (latches_held m.store (m.activity actor)))) = ap (λ (o : Option Mode). one_if (is_some o)) (keeps.latches_fit.exact actor q may) in
+    let least = (holders_moved actor (modes m) (modes m) may (λ other page apart. refl) q).1 in
     let pins = keeps.frames_fit.pins q in
     omega (arith, once, exact, least, pins)
 
@@ -112,7 +112,7 @@ module _ (m : Machine) (d : DiskModel) (c : RunningCore) (actor : ℕ) (free : O
     few q =
         let now = pins_now q in
         let pins = keeps.frames_fit.pins q in
-        let hold = few_hold m.latches q in
+        let hold = few_hold (modes m) q in
         let one = times_few q (page_wanted (wanted_by m actor)) in
         let first : length (page_wanted (wanted_by m actor)) ≤ 1 = by (wanted_by m actor) in
         let two = times_few q (pages_of (latches_held st deed.next)) in

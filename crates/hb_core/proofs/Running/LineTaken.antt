@@ -224,7 +224,7 @@ module _ (d : DiskModel) (c after : RunningCore) (m : Machine) (actor behind : �
     rising : AreRising m.lines
     rising = step.goes_on.kept.lines_in_sequence.rising
 
-    holds_none : (page : ℕ) → mode_at m.latches actor page ≡ None
+    holds_none : (page : ℕ) → modes m actor page ≡ None
     holds_none page = step.goes_on.kept.latches_fit.exact actor page may ∙ ap (λ (a : Activity). mode_among page (latches_held m.store a)) idle
 
     still_idle : (other : ℕ) → m.activity other ≡ with_activity actor at.SessionIdle m.activity other

@@ -79,7 +79,7 @@ module _ (d : DiskModel) (c : RunningCore) (m : Machine) (actor : ℕ) (free : O
   stands_after st done =
       let here = may_stand m actor c.store st deed may has.may came row_there (subst (λ (n : ℕ). MayDo next.op n c.store st) (sym (shown_length d c (with_memory c m) has.shows)) done) in
       subst (λ (table : LatchTable). MayStand actor table st (placed_at (length c.order) next.then)) has.shows.latches
-      (subst (λ (n : ℕ). MayStand actor m.latches st (placed_at n next.then)) (shown_length d c (with_memory c m) has.shows) here)
+      (subst (λ (n : ℕ). MayStand actor (modes m) st (placed_at n next.then)) (shown_length d c (with_memory c m) has.shows) here)
 
   -- the actor has nothing in hand meanwhile
   elsewhere : (op : Op) (idle : Activity) → MayCommit d c op → MayCommit d (with_standing actor idle c) op

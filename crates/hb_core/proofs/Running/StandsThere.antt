@@ -110,7 +110,7 @@ module _ (m : Machine) (actor : ℕ) (fetched st : StoreState) (deed : Deed) (la
       by (inl free) = absurd (not_none (merging_at deed.next) place at_place free.merging)
       by (inr here) = known_apart fetched place pair (subst (NamesKnown fetched) (same_Some here.place place (sym here.is ∙ at_place)) here.named) held
 
-  pub may_stand : MayDo deed.op (length m.order) fetched st → MayStand actor m.latches st deed.next
+  pub may_stand : MayDo deed.op (length m.order) fetched st → MayStand actor (modes m) st deed.next
   may_stand done =
       let backed = every_row_backed m actor AnyPage fetched st latches keeps.latches_fit keeps.pages_of_file work.free brings (wanted_by m actor) deed refl done row in
       record {
@@ -120,5 +120,5 @@ module _ (m : Machine) (actor : ℕ) (fetched st : StoreState) (deed : Deed) (la
             let there = backed.walk held.0 held.1 in
             subst (λ (o : Option ℕ). IsSome (option_and_then (live_here st) o)) (sym held.1) (has_value (live_here st held.0) there.0 (ap if_live there.1));
         apart = apart_by st deed.next (puts_apart m actor AnyPage fetched latches keeps.latches_fit keeps.pages_of_file brings deed (place_after m actor fetched (wanted_by m actor) deed refl row)) (pair_apart (place_after m actor fetched (wanted_by m actor) deed refl row));
-        free = λ page mode among other another. if_value (mode_at m.latches other page) (λ (held : Mode). IsTrue (goes_beside mode held)) (λ held holds. beside_from m actor keeps.latches_fit other page mode held another (backed.latches page mode among).from holds);
+        free = λ page mode among other another. if_value (modes m other page) (λ (held : Mode). IsTrue (goes_beside mode held)) (λ held holds. beside_from m actor keeps.latches_fit other page mode held another (backed.latches page mode among).from holds);
       }

@@ -147,12 +147,12 @@ module _ (m : Machine) (actor : ℕ) (outcome other : Outcome) (new next : Machi
 
   both_work : Works m actor outcome new → Works m actor other next → G
   both_work (inl (by, way, first)) (inl (by', way', second)) =
-      let same = one_least m.latches actor (wanted_by m actor) by by' way way' in
+      let same = one_least (modes m) actor (wanted_by m actor) by by' way way' in
       both_stay (outcomes.Blocked by) first (subst (λ (n : ℕ). StaysSo m (outcomes.Blocked n) other next) (sym same) second)
-  both_work (inl (by, way, first)) (inr (inl (free, ready, rest))) = absurd (not_free m.latches actor (wanted_by m actor) by way free)
-  both_work (inl (by, way, first)) (inr (inr (free, ready, rest))) = absurd (not_free m.latches actor (wanted_by m actor) by way free)
-  both_work (inr (inl (free, ready, rest))) (inl (by, way, second)) = absurd (not_free m.latches actor (wanted_by m actor) by way free)
-  both_work (inr (inr (free, ready, rest))) (inl (by, way, second)) = absurd (not_free m.latches actor (wanted_by m actor) by way free)
+  both_work (inl (by, way, first)) (inr (inl (free, ready, rest))) = absurd (not_free (modes m) actor (wanted_by m actor) by way free)
+  both_work (inl (by, way, first)) (inr (inr (free, ready, rest))) = absurd (not_free (modes m) actor (wanted_by m actor) by way free)
+  both_work (inr (inl (free, ready, rest))) (inl (by, way, second)) = absurd (not_free (modes m) actor (wanted_by m actor) by way free)
+  both_work (inr (inr (free, ready, rest))) (inl (by, way, second)) = absurd (not_free (modes m) actor (wanted_by m actor) by way free)
   both_work (inr (inl (free, unready, first))) (inr (inl (free', unready', second))) = both_get_ready first second
   both_work (inr (inl (free, unready, first))) (inr (inr (free', ready, second))) = absurd (ready unready)
   both_work (inr (inr (free, ready, first))) (inr (inl (free', unready, second))) = absurd (ready unready)

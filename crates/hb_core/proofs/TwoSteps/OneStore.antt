@@ -263,7 +263,7 @@ module _ (f g : StoreState) (alike : KeepsAllButPages f g) (agree : Agree f g) w
         answered = first.answered ∙ sym second.answered;
         activity = λ who. first.activity who ∙ sym (second.activity who);
         latches = λ who page. elim (cases_eq who actor) [
-          | inl is ↦ subst (λ (w : ℕ). mode_at new.latches w page ≡ mode_at next.latches w page) (sym is)
+          | inl is ↦ subst (λ (w : ℕ). modes new w page ≡ modes next w page) (sym is)
               (first.latches.own page ∙ ap (λ (l : List Latch). mode_among page l) latches ∙ sym (second.latches.own page))
           | inr another ↦ first.latches.others who page another ∙ sym (second.latches.others who page another)
         ];

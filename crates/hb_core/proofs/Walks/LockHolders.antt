@@ -39,7 +39,7 @@ lock_holders_work m actor other nobody awaits = awaits_holder m actor other (nex
 
 -- an idle session wants no latch
 idle_wants_none : (m : Machine) (actor by : ℕ) → m.activity actor ≡ at.SessionIdle → IsInTheWay m actor by → ⊥
-idle_wants_none m actor by idle way = subst (λ (a : Activity). IsSomeAnd (wanted_of a m.store.meta (looked_live m.store a)) (λ wanted. IsLeastInTheWay m.latches actor wanted.page wanted.mode by)) idle way
+idle_wants_none m actor by idle way = subst (λ (a : Activity). IsSomeAnd (wanted_of a m.store.meta (looked_live m.store a)) (λ wanted. IsLeastInTheWay (modes m) actor wanted.page wanted.mode by)) idle way
 
 -- one at work isn't kept back by a box
 works_by_latch : (m : Machine) (actor : ℕ) → HasWorkLeft m actor → IsKeptBack m actor → IsKeptWaiting m actor

@@ -32,7 +32,7 @@ use Rattle.hb_lemmas.proofs.Options.{not_none}
 
 -- an actor waits for another one's latch, and so on, to the last
 abbrev pub AwaitsLatch : Machine → ℕ → ℕ → Type 0
-AwaitsLatch m actor other = WaitsFor m.latches (wanted_by m) actor other
+AwaitsLatch m actor other = WaitsFor (modes m) (wanted_by m) actor other
 
 abbrev pub LatchSequence : Machine → ℕ → List ℕ → ℕ → Type 0
 LatchSequence m actor [] last = AwaitsLatch m actor last
@@ -73,17 +73,17 @@ module _ (m : Machine) (files : Files) (fit : LatchesFit m) (has : HasSoundFile 
   -- the other one holds the page for update, and its next step is to have it alone
   pub record IsOwn (wanted : Wanted) (other : ℕ) (its : Wanted) : Type 0 where
     pub same : its.page ≡ wanted.page
-    pub holds : mode_at m.latches other wanted.page ≡ Some Update
+    pub holds : modes m other wanted.page ≡ Some Update
 
   -- what an actor wants for which another one waits comes later than what that one wants
   one_wait : (actor other : ℕ) (wanted its : Wanted) → wanted_by m actor ≡ Some wanted → wanted_by m other ≡ Some its → AwaitsLatch m actor other → ComesLater (current_file files) wanted.page its.page ⊎ IsOwn wanted other its
   one_wait actor other wanted its wants its_wants waits =
       let same : waits.wanted ≡ wanted = same_Some waits.wanted wanted (sym waits.wants_it ∙ wants) in
-      let held = held_there (mode_at m.latches other waits.wanted.page) waits.wanted.mode waits.kept.conflict in
-      let there : mode_at m.latches other wanted.page ≡ Some held.0 = ap (λ (w : Wanted). mode_at m.latches other w.page) (sym same) ∙ held.1 in
+      let held = held_there (modes m other waits.wanted.page) waits.wanted.mode waits.kept.conflict in
+      let there : modes m other wanted.page ≡ Some held.0 = ap (λ (w : Wanted). modes m other w.page) (sym same) ∙ held.1 in
       by held.0 there (wanted_comes_later m files other wanted.page held.0 its (wants_may other its its_wants) fit has walks its_wants there)
     where
-      by : (mode : Mode) → mode_at m.latches other wanted.page ≡ Some mode → ComesLater (current_file files) wanted.page its.page ⊎ WantsItsOwn m other wanted.page mode its → ComesLater (current_file files) wanted.page its.page ⊎ IsOwn wanted other its
+      by : (mode : Mode) → modes m other wanted.page ≡ Some mode → ComesLater (current_file files) wanted.page its.page ⊎ WantsItsOwn m other wanted.page mode its → ComesLater (current_file files) wanted.page its.page ⊎ IsOwn wanted other its
       by mode there (inl later) = inl later
       by mode there (inr own) = inr (record { same = own.same; holds = there ∙ ap Some own.update })
 
@@ -112,7 +112,7 @@ module _ (m : Machine) (files : Files) (fit : LatchesFit m) (has : HasSoundFile 
       both (inl a) (inl b) = inl (later_on (current_file files) wanted.page more.wanted.page its.page a b)
       both (inl a) (inr b) = inl (subst (ComesLater (current_file files) wanted.page) (sym b.same) a)
       both (inr a) (inl b) = inl (subst (λ (n : ℕ). ComesLater (current_file files) n its.page) a.same b)
-      both (inr a) (inr b) = absurd (beside_updates (mode_at m.latches next wanted.page) (mode_at m.latches last wanted.page) a.holds (ap (mode_at m.latches last) (sym a.same) ∙ b.holds)
+      both (inr a) (inr b) = absurd (beside_updates (modes m next wanted.page) (modes m last wanted.page) a.holds (ap (modes m last) (sym a.same) ∙ b.holds)
           (fit.compatible next last wanted.page (λ same. more.kept.another (sym same))))
   in_sequence (next ∷ second ∷ rest) actor last wanted its wants its_wants (waits, more) =
       let middle = first_wants next (second ∷ rest) last more in
@@ -140,10 +140,10 @@ module _ (m : Machine) (fit : LatchesFit m) (nobody : HasNobodyElse m) (none_els
   idle_holds : (st : StoreState) (page : ℕ) (held : Mode) (activity : Activity) → activity ≡ at.SessionIdle → mode_among page (latches_held st activity) ≡ Some held → ⊥
   idle_holds st page held activity idle holds = none-some held (subst (λ (a : Activity). mode_among page (latches_held st a) ≡ Some held) idle holds)
 
-  holder_stands : (actor page : ℕ) (held : Mode) → mode_at m.latches actor page ≡ Some held → m.activity actor ≡ at.SessionIdle → ⊥
+  holder_stands : (actor page : ℕ) (held : Mode) → modes m actor page ≡ Some held → m.activity actor ≡ at.SessionIdle → ⊥
   holder_stands actor page held holds idle = elim (may_or_not actor) [
     | inl may ↦ idle_holds m.store page held (m.activity actor) idle (sym (fit.exact actor page may) ∙ holds)
-    | inr none ↦ absurd (not_none (mode_at m.latches actor page) held holds (none_else actor page none))
+    | inr none ↦ absurd (not_none (modes m actor page) held holds (none_else actor page none))
   ]
 
   idle_locks : (lock : BoxLock) (activity : Activity) → activity ≡ at.SessionIdle → IsSomeAnd (lock_of activity) (Excludes lock) → ⊥
@@ -156,7 +156,7 @@ module _ (m : Machine) (fit : LatchesFit m) (nobody : HasNobodyElse m) (none_els
   -- who is waited for isn't idle
   waited_for : (actor other : ℕ) → AwaitsActor m actor other → m.activity other ≡ at.SessionIdle → ⊥
   waited_for actor other (inl waits) idle =
-      let held = held_there (mode_at m.latches other waits.wanted.page) waits.wanted.mode waits.kept.conflict in
+      let held = held_there (modes m other waits.wanted.page) waits.wanted.mode waits.kept.conflict in
       holder_stands other waits.wanted.page held.0 held.1 idle
   waited_for actor other (inr awaits) idle = box_held actor other (next_line actor m.answered m.lines) idle awaits.locked
 

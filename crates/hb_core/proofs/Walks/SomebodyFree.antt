@@ -30,7 +30,7 @@ rests_free st activity page mode rests holds = absurd rests
 module _ (m : Machine) (files : Files) (fit : LatchesFit m) (has : HasSoundFile m files) (nobody : HasNobodyElse m) (none_else : HasNoOtherLatches m) (walks : WalksInSpace m)
     (kept : (other : ℕ) → HasWorkLeft m other → IsKeptWaiting m other) where
   -- who is in the way is at work
-  holder_works : (actor page : ℕ) (mode : Mode) → mode_at m.latches actor page ≡ Some mode → HasWorkLeft m actor
+  holder_works : (actor page : ℕ) (mode : Mode) → modes m actor page ≡ Some mode → HasWorkLeft m actor
   holder_works actor page mode holds = elim (may_or_not actor) [
     | inl may ↦ (may, λ rests. rests_free m.store (m.activity actor) page mode rests (sym (fit.exact actor page may) ∙ holds))
     | inr none ↦ let nothing : None ≡ Some mode = sym (none_else actor page none) ∙ holds in cc
@@ -41,10 +41,10 @@ module _ (m : Machine) (files : Files) (fit : LatchesFit m) (has : HasSoundFile 
     pub waits : AwaitsLatch m actor other
     pub works : HasWorkLeft m other
 
-  kept_by : (actor by : ℕ) (wants : Option Wanted) → wanted_by m actor ≡ wants → IsSomeAnd wants (λ wanted. IsLeastInTheWay m.latches actor wanted.page wanted.mode by) → IsKeptBy actor
+  kept_by : (actor by : ℕ) (wants : Option Wanted) → wanted_by m actor ≡ wants → IsSomeAnd wants (λ wanted. IsLeastInTheWay (modes m) actor wanted.page wanted.mode by) → IsKeptBy actor
   kept_by actor by None is never = absurd never
   kept_by actor by (Some wanted) is least =
-      let held = held_there (mode_at m.latches by wanted.page) wanted.mode least.keeps.conflict in
+      let held = held_there (modes m by wanted.page) wanted.mode least.keeps.conflict in
       record { other = by; waits = record { wanted = wanted; wants_it = is; kept = least.keeps }; works = holder_works by wanted.page held.0 held.1 }
 
   keeps_it : (actor : ℕ) → HasWorkLeft m actor → IsKeptBy actor

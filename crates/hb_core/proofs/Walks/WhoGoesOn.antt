@@ -93,7 +93,7 @@ module _ (table : LatchTable) (actor page : ℕ) (mode : Mode) where
 
 module _ (m : Machine) (none_else : HasNoOtherLatches m) where
   -- only the 19 actors hold latches
-  nobody : (actor page : ℕ) (mode : Mode) → ((earlier : ℕ) → earlier < 20 → ¬ (KeepsFrom m.latches actor page mode earlier)) → (other : ℕ) → ¬ (KeepsFrom m.latches actor page mode other)
+  nobody : (actor page : ℕ) (mode : Mode) → ((earlier : ℕ) → earlier < 20 → ¬ (KeepsFrom (modes m) actor page mode earlier)) → (other : ℕ) → ¬ (KeepsFrom (modes m) actor page mode other)
   nobody actor page mode none other keeps = elim (may_or_not other) [
     | inl may ↦ let last = may.to_19 in none other (omega (arith, last)) keeps
     | inr outside ↦ subst (λ (o : Option Mode). IsSomeAnd o (λ held. ¬ (IsTrue (goes_beside mode held)))) (none_else other page outside) keeps.conflict
@@ -102,10 +102,10 @@ module _ (m : Machine) (none_else : HasNoOtherLatches m) where
   free_or_kept : (actor : ℕ) → HasWayFree m actor ⊎ IsKeptWaiting m actor
   free_or_kept actor = by (wanted_by m actor)
     where
-      by : (o : Option Wanted) → IfSome o (λ wanted. IsGrantable m.latches actor wanted.page wanted.mode) ⊎ ((by : ℕ) × IsSomeAnd o (λ wanted. IsLeastInTheWay m.latches actor wanted.page wanted.mode by))
+      by : (o : Option Wanted) → IfSome o (λ wanted. IsGrantable (modes m) actor wanted.page wanted.mode) ⊎ ((by : ℕ) × IsSomeAnd o (λ wanted. IsLeastInTheWay (modes m) actor wanted.page wanted.mode by))
       by None = inl tt
-      by (Some wanted) = elim (least_below m.latches actor wanted.page wanted.mode 20) [
-        | inl none ↦ inl (nobody_keeps m.latches actor wanted.page wanted.mode (nobody actor wanted.page wanted.mode none))
+      by (Some wanted) = elim (least_below (modes m) actor wanted.page wanted.mode 20) [
+        | inl none ↦ inl (nobody_keeps (modes m) actor wanted.page wanted.mode (nobody actor wanted.page wanted.mode none))
         | inr found ↦ inr found
       ]
 
@@ -173,9 +173,9 @@ module _ (m : Machine) (actor : ℕ) (outcome : Outcome) (new : Machine) where
   flushed due nothing forward done (inr (none, inr (inr (nothing_left, so)))) = done so
 
   -- nobody is in a way that is free
-  not_kept : (o : Option Wanted) (by : ℕ) → IfSome o (λ wanted. IsGrantable m.latches actor wanted.page wanted.mode) → IsSomeAnd o (λ wanted. IsLeastInTheWay m.latches actor wanted.page wanted.mode by) → ⊥
+  not_kept : (o : Option Wanted) (by : ℕ) → IfSome o (λ wanted. IsGrantable (modes m) actor wanted.page wanted.mode) → IsSomeAnd o (λ wanted. IsLeastInTheWay (modes m) actor wanted.page wanted.mode by) → ⊥
   not_kept None by free never = never
-  not_kept (Some wanted) by free least = none_keeps m.latches actor wanted.page wanted.mode free by least.keeps
+  not_kept (Some wanted) by free least = none_keeps (modes m) actor wanted.page wanted.mode free by least.keeps
 
   worked : HasWayFree m actor → Works m actor outcome new → GoesForward outcome
   worked free (inl (by, way, so)) = absurd (not_kept (wanted_by m actor) by free way)
