@@ -31,7 +31,6 @@ begun_machine lines store files clock = record {
   lines = lines;
   answered = [];
   activity = λ actor. idle_of (class_for actor);
-  latches = map.empty;
   jobs = [];
   order = [];
   stop = None;
@@ -72,7 +71,6 @@ module _ (lines : List Line) (store : StoreState) (may : MayBegin lines store) (
     lines_fit = may.fit;
     unanswered = refl;
     idle = λ actor. refl;
-    unlatched = λ actor page. map.get-empty latch_cmp (actor, page);
     no_job = refl;
     no_order = refl;
     runs = refl;

@@ -29,10 +29,9 @@ use Rattle.hb_core.specs.Asking.{HasWayFree, looked_live, wanted_by}
 use Rattle.hb_core.specs.Fetching.{Brings}
 use Rattle.hb_core.specs.Keeps.{HoldsPagesOfFile, LatchesFit}
 use Rattle.hb_core.specs.KeptMerges.{IsMerging}
-use Rattle.hb_core.specs.Machines.{Machine, with_disk, sight}
+use Rattle.hb_core.specs.Machines.{Machine, modes, with_disk, sight}
 use Rattle.hb_core.specs.Performing.{MayDo, latches_held, mode_among}
 use Rattle.hb_core.specs.Rows.{Row, RowAt}
-use Rattle.hb_latch.specs.Tables.{mode_at}
 use Rattle.hb_space.specs.Actors.{IsActor}
 use Rattle.hb_ops.specs.Extracting.{fresh_page, source_page}
 use Rattle.hb_ops.specs.Files.{if_live}
@@ -141,7 +140,7 @@ module _ (m : Machine) (actor : ℕ) (may : ℕ → Type 0) (fetched : StoreStat
       record { from = inl holds; live = used.0; there = ap (λ (st : StoreState). in_memory st page) none ∙ brings.stays page (inl (actor, mode, holds)) there ∙ used.1 }
 
   pub own_mode : (activity : Activity) (page : ℕ) (mode : Mode) → m.activity actor ≡ activity → mode_among page (latches_held m.store activity) ≡ Some mode → modes m actor page ≡ Some mode
-  own_mode activity page mode is among = fit.exact actor page latches ∙ subst (λ (a : Activity). mode_among page (latches_held m.store a) ≡ Some mode) (sym is) among
+  own_mode activity page mode is among = subst (λ (a : Activity). mode_among page (latches_held m.store a) ≡ Some mode) (sym is) among
 
   -- the page that was latched
   module _ (wanted : Wanted) (page : LivePage) (wants : wanted_by m actor ≡ Some wanted) (live : if_live (in_memory fetched wanted.page) ≡ Some page) (level : page.level ≡ wanted.level) (none : new ≡ fetched) where

@@ -108,7 +108,7 @@ module _ (m : Machine) (actor : ℕ) (may : ℕ → Type 0) (fetched : StoreStat
   split_apart parts same =
       let leaves = parts.row.leaves in
       let next = is_next_number fetched leaves.fresh leaves.free_after leaves.next in
-      let latched = fit.exact actor parts.held is_actor ∙ ap (λ (a : Activity). mode_among parts.held (latches_held m.store a)) parts.before ∙ at_itself parts.held (Some Exclusive) None in
+      let latched = ap (λ (a : Activity). mode_among parts.held (latches_held m.store a)) parts.before ∙ at_itself parts.held (Some Exclusive) None in
       let used = fit.used actor parts.held Exclusive latched in
       let stays : in_memory fetched parts.held ≡ Some (Live used.0) = brings.stays parts.held (inl (actor, Exclusive, latched)) (has_value (in_memory m.store parts.held) (Live used.0) used.1) ∙ used.1 in
       elim (cases_Bool (fetched.meta.free == 0)) [

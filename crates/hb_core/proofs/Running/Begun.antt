@@ -68,9 +68,6 @@ stands_at_rest actor may = elim (cases_lt actor 17) [
     at_number : (n : ℕ) → n ≡ actor → IsAtRest n → IsAtRest actor
     at_number n same rest = subst IsAtRest same rest
 
-unlatched_is : (table : LatchTable) → ((actor page : ℕ) → mode_at table actor page ≡ None) → table ≡ finite.empty
-unlatched_is table none = finite.same_map latch_order exact_keys table finite.empty (λ q. none q.0 q.1 ∙ sym (finite.get-empty latch_cmp q))
-
 no_answer : (m : Machine) (line : Line) → m.answered ≡ [] → HasAnswer m line → ⊥
 no_answer m line none answer = false≢true (sym (ap (λ (all : List Answered). is_answered line.number all) none) ∙ answer)
 
@@ -94,7 +91,7 @@ begun_shows d m lines steps store uses begun lines_so store_so uses_so tells sil
   all_actors = refl;
   activities = λ actor may. stands_at_rest actor may ∙ ap Some (sym (begun.idle actor));
   nobody_else = (beginning_keeps m begun).nobody_else;
-  latches = unlatched_is (modes m) begun.unlatched;
+  latches = fun_ext (λ actor. fun_ext (λ page. none_latched m begun actor page ∙ sym (finite.get-empty latch_cmp (actor, page))));
   jobs = begun.no_job;
   order = ap (λ (es : List Entry). map (λ (e : Entry). e.line.number) es) begun.no_order;
   stop = begun.runs;

@@ -9,7 +9,7 @@ use Rattle.std.proofs.lemmas.List.Sums.{count_by-le-length}
 use Rattle.hb_lemmas.proofs.Options.{has_value, not_none}
 use Rattle.hb_activity.specs.declared.wanting.Wanted.{Wanted}
 use Rattle.hb_latch.specs.declared.modes.Mode.{Mode}
-use Rattle.hb_latch.specs.Tables.{LatchTable, mode_at}
+use Rattle.hb_latch.specs.Tables.{HeldModes}
 use Rattle.hb_pool.proofs.Facts.Others.{came_in}
 use Rattle.hb_pool.proofs.Facts.Pooled.{dirty_stays, pinned_stays}
 use Rattle.hb_pool.specs.Frames.{IsStaying, Use, fresh}
@@ -60,7 +60,7 @@ latched_counts m keeps actor id mode holds = elim (may_or_not actor) [
       let own : one_if (is_some (modes m actor id)) ≡ 1 = ap (λ (o : Option Mode). one_if (is_some o)) holds in
       let least = (holders_moved actor (modes m) (modes m) may (λ other page apart. refl) id).1 in
       omega (arith, own, least)
-  | inr none ↦ absurd (not_none (modes m actor id) mode holds (keeps.no_other_latches actor id none))
+  | inr none ↦ absurd (not_none (modes m actor id) mode holds (ap (λ (a : Activity). mode_among id (latches_held m.store a)) (keeps.nobody_else actor none)))
 ]
 
 pub must_here : (m : Machine) (st : StoreState) (uses : List Use) → MachineKeeps m → st.dirty ≡ m.store.dirty → IsTied st uses → ((q : ℕ) → pins_of m.uses q ≤ pins_of uses q) → (id : ℕ) → MustStay m id → StaysHere uses id
@@ -81,8 +81,8 @@ module _ (d : DiskModel) (c : RunningCore) (m : Machine) (step : MayStep d c m) 
 
 -- ---- few pins
 
-pub few_hold : (table : LatchTable) (id : ℕ) → holders table id ≤ 19
-few_hold table id = count_by-le-length (λ (actor : ℕ). is_some (mode_at table actor id)) actors
+pub few_hold : (modes : HeldModes) (id : ℕ) → holders modes id ≤ 19
+few_hold modes id = count_by-le-length (λ (actor : ℕ). is_some (modes actor id)) actors
 
 -- ---- a page that comes
 

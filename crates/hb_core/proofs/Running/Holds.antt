@@ -67,12 +67,11 @@ latched_page q (latch ∷ rest) some = elim (cases_Bool (latch.page == q)) [
 
 pub held_pinned : (m : Machine) (actor : ℕ) → IsActor actor → MachineKeeps m → (q : ℕ) → times q (pages_of (latches_held m.store (m.activity actor))) ≤ pins_of m.uses q
 held_pinned m actor may keeps q =
-    let once : times q (pages_of (latches_held m.store (m.activity actor))) ≡ one_if (is_some (mode_among q (latches_held m.store (m.activity actor)))) =
+    let once : times q (pages_of (latches_held m.store (m.activity actor))) ≡ one_if (is_some (modes m actor q)) =
     latches_once m.store (m.activity actor) (keeps.walk_in_space.merging actor) (known_apart m keeps.room_known actor) q in
-    let exact : one_if (is_some (modes m actor q)) ≡ one_if (is_some (mode_among q (latches_held m.store (m.activity actor)))) = ap (λ (o : Option Mode). one_if (is_some o)) (keeps.latches_fit.exact actor q may) in
     let least = (holders_moved actor (modes m) (modes m) may (λ other page apart. refl) q).1 in
     let pins = keeps.frames_fit.pins q in
-    omega (arith, once, exact, least, pins)
+    omega (arith, once, least, pins)
 
 -- so it may be let go, whatever came for a step that comes to no row
 pub may_give_up : (m : Machine) (actor : ℕ) (st : StoreState) (uses : List Use) → IsActor actor → MachineKeeps m → IsTied st uses → CameFor (wanted_by m actor) m.store.meta m.uses uses → CanUnpin (pages_of (latches_held m.store (m.activity actor))) uses

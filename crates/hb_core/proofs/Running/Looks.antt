@@ -49,7 +49,7 @@ module _ (m : Machine) (actor : ℕ) (may : IsActor actor) (keeps : MachineKeeps
       → ((page : LivePage) → IfSome (walk_point activity) (Holds page.area) → IfSome (looked_at activity) (Holds page.area)) → LooksInto m.store activity held
   walks_into activity held is walks point =
       let held_by : walk_held (m.activity actor) ≡ Some held = ap walk_held is ∙ walks in
-      let one = keeps.latches_fit.walking actor held may held_by in
+      let one = keeps.latches_fit.walking actor held held_by in
       let live : live_here m.store held ≡ Some one.0 = ap if_live one.1 in
       let latch = walk_latched activity m.store held one.0 walks live in
       record {
@@ -168,7 +168,7 @@ may_look_now m actor may keeps = may_look_then m actor may keeps m.store (λ id 
 module _ (m : Machine) (actor : ℕ) (may : IsActor actor) (keeps : MachineKeeps m) (needs : ℕ → Type 0) (st : StoreState) (brings : Brings m needs st) where
   -- a page that the actor holds stays
   pub held_stays : (id : ℕ) (mode : Mode) (page : LivePage) → mode_among id (latches_held m.store (m.activity actor)) ≡ Some mode → live_here m.store id ≡ Some page → live_here st id ≡ Some page
-  held_stays id mode page among live = ap if_live (still_held m needs st brings actor id mode (Live page) (keeps.latches_fit.exact actor id may ∙ among) (live_so (in_memory m.store id) page live))
+  held_stays id mode page among live = ap if_live (still_held m needs st brings actor id mode (Live page) among (live_so (in_memory m.store id) page live))
 
   pub may_look : MayLook st (m.activity actor)
   may_look = may_look_then m actor may keeps st held_stays

@@ -75,10 +75,10 @@ module _ (d : DiskModel) (c : RunningCore) (m : Machine) (actor : ℕ) (free : O
   came : Brings m AnyPage c.store
   came = brings d c m actor free may has
 
-  pub stands_after : (st : StoreState) → MayDo next.op (length c.order) c.store st → MayStand actor c.latches st (placed_at (length c.order) next.then)
+  pub stands_after : (st : StoreState) → MayDo next.op (length c.order) c.store st → MayStand actor (mode_at c.latches) st (placed_at (length c.order) next.then)
   stands_after st done =
       let here = may_stand m actor c.store st deed may has.may came row_there (subst (λ (n : ℕ). MayDo next.op n c.store st) (sym (shown_length d c (with_memory c m) has.shows)) done) in
-      subst (λ (table : LatchTable). MayStand actor table st (placed_at (length c.order) next.then)) has.shows.latches
+      subst (λ (t : HeldModes). MayStand actor t st (placed_at (length c.order) next.then)) (sym (same_held m AnyPage c.store came has.may.goes_on.kept.latches_fit) ∙ has.shows.latches)
       (subst (λ (n : ℕ). MayStand actor (modes m) st (placed_at n next.then)) (shown_length d c (with_memory c m) has.shows) here)
 
   -- the actor has nothing in hand meanwhile

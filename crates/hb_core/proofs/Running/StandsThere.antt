@@ -120,5 +120,5 @@ module _ (m : Machine) (actor : ℕ) (fetched st : StoreState) (deed : Deed) (la
             let there = backed.walk held.0 held.1 in
             subst (λ (o : Option ℕ). IsSome (option_and_then (live_here st) o)) (sym held.1) (has_value (live_here st held.0) there.0 (ap if_live there.1));
         apart = apart_by st deed.next (puts_apart m actor AnyPage fetched latches keeps.latches_fit keeps.pages_of_file brings deed (place_after m actor fetched (wanted_by m actor) deed refl row)) (pair_apart (place_after m actor fetched (wanted_by m actor) deed refl row));
-        free = λ page mode among other another. if_value (modes m other page) (λ (held : Mode). IsTrue (goes_beside mode held)) (λ held holds. beside_from m actor keeps.latches_fit other page mode held another (backed.latches page mode among).from holds);
+        free = λ page mode among other another. if_value (modes m other page) (λ (held : Mode). IsTrue (goes_beside mode held)) (λ held holds. beside_from m keeps.latches_fit actor other page mode held another (backed.latches page mode among).from holds);
       }

@@ -41,8 +41,8 @@ use Rattle.hb_poster.specs.PosterRows.{IsPostingOf}
 
 -- ---- the least actor in the way is one, and where one is the way isn't free
 
-module _ (table : LatchTable) (actor : ℕ) where
-  one_least : (wanted : Option Wanted) (by other : ℕ) → IsSomeAnd wanted (λ w. IsLeastInTheWay table actor w.page w.mode by) → IsSomeAnd wanted (λ w. IsLeastInTheWay table actor w.page w.mode other) → by ≡ other
+module _ (modes : HeldModes) (actor : ℕ) where
+  one_least : (wanted : Option Wanted) (by other : ℕ) → IsSomeAnd wanted (λ w. IsLeastInTheWay modes actor w.page w.mode by) → IsSomeAnd wanted (λ w. IsLeastInTheWay modes actor w.page w.mode other) → by ≡ other
   one_least None by other none least = absurd none
   one_least (Some w) by other first second = elim (cases_lt by other) [
     | inl lt ↦ absurd (second.least by lt first.keeps)
@@ -52,9 +52,9 @@ module _ (table : LatchTable) (actor : ℕ) where
     ]
   ]
 
-  not_free : (wanted : Option Wanted) (by : ℕ) → IsSomeAnd wanted (λ w. IsLeastInTheWay table actor w.page w.mode by) → IfSome wanted (λ w. IsGrantable table actor w.page w.mode) → ⊥
+  not_free : (wanted : Option Wanted) (by : ℕ) → IsSomeAnd wanted (λ w. IsLeastInTheWay modes actor w.page w.mode by) → IfSome wanted (λ w. IsGrantable modes actor w.page w.mode) → ⊥
   not_free None by none free = none
-  not_free (Some w) by least free = not_both (mode_at table by w.page) (λ held. IsTrue (goes_beside w.mode held)) least.keeps.conflict (free by least.keeps.another)
+  not_free (Some w) by least free = not_both (modes by w.page) (λ held. IsTrue (goes_beside w.mode held)) least.keeps.conflict (free by least.keeps.another)
 
 one_in_the_way : (m : Machine) (actor : ℕ) (lock : BoxLock) (by other : ℕ) → IsBoxInTheWay m actor lock by → IsBoxInTheWay m actor lock other → by ≡ other
 one_in_the_way m actor lock by other first second = elim (cases_lt by other) [

@@ -44,7 +44,6 @@ one_of_same new next is = subst (AreOne new) is (record {
   lines = refl;
   answered = refl;
   activity = λ actor. refl;
-  latches = λ actor page. refl;
   jobs = refl;
   order = refl;
   stop = refl;
@@ -262,11 +261,6 @@ module _ (f g : StoreState) (alike : KeepsAllButPages f g) (agree : Agree f g) w
         lines = first.lines ∙ sym second.lines;
         answered = first.answered ∙ sym second.answered;
         activity = λ who. first.activity who ∙ sym (second.activity who);
-        latches = λ who page. elim (cases_eq who actor) [
-          | inl is ↦ subst (λ (w : ℕ). modes new w page ≡ modes next w page) (sym is)
-              (first.latches.own page ∙ ap (λ (l : List Latch). mode_among page l) latches ∙ sym (second.latches.own page))
-          | inr another ↦ first.latches.others who page another ∙ sym (second.latches.others who page another)
-        ];
         jobs = one_queue deed m.jobs new.jobs next.jobs first.jobs second.jobs;
         order = first.order ∙ sym second.order;
         stop = first.stop ∙ sym second.stop;

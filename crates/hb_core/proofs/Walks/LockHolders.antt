@@ -47,10 +47,10 @@ works_by_latch m actor works (inl kept) = kept
 works_by_latch m actor works (inr (by, awaits)) = absurd (works.1 (subst IsAtRest (sym awaits.idle) tt))
 
 pub somebody_under_way_goes_on : SomebodyUnderWayGoesOn
-somebody_under_way_goes_on m files actor fit has nobody none_else walks under kept = by_kind under
+somebody_under_way_goes_on m files actor fit has nobody walks under kept = by_kind under
   where
     stuck : (other : ℕ) → HasWorkLeft m other → ⊥
-    stuck other works = somebody_goes_on m files other fit has nobody none_else walks works (λ one busy. works_by_latch m one busy (kept one (inl busy)))
+    stuck other works = somebody_goes_on m files other fit has nobody walks works (λ one busy. works_by_latch m one busy (kept one (inl busy)))
 
     by_kept : m.activity actor ≡ at.SessionIdle → IsKeptBack m actor → ⊥
     by_kept idle (inl (by, way)) = idle_wants_none m actor by idle way

@@ -13,7 +13,7 @@ use Rattle.hb_activity.specs.Wanting.{wanted_of}
 use Rattle.hb_core.proofs.Walks.LaterWanted.{wanted_comes_later}
 use Rattle.hb_core.proofs.Facts.StillThere.{may_or_not}
 use Rattle.hb_core.specs.Asking.{looked_live, wanted_by}
-use Rattle.hb_core.specs.Keeps.{HasNoOtherLatches, HasNobodyElse, HasSoundFile, LatchesFit, WalksInSpace}
+use Rattle.hb_core.specs.Keeps.{HasNobodyElse, HasSoundFile, LatchesFit, WalksInSpace}
 use Rattle.hb_core.specs.Machines.{Files, Machine, current_file}
 use Rattle.hb_core.specs.Performing.{latches_held, mode_among}
 use Rattle.hb_boxlock.specs.Locking.{Excludes}
@@ -136,15 +136,12 @@ module _ (m : Machine) (files : Files) (fit : LatchesFit m) (has : HasSoundFile 
 
 -- ---- in a circle everybody is waited for, so nobody is idle, and all wait for latches
 
-module _ (m : Machine) (fit : LatchesFit m) (nobody : HasNobodyElse m) (none_else : HasNoOtherLatches m) where
+module _ (m : Machine) where
   idle_holds : (st : StoreState) (page : ℕ) (held : Mode) (activity : Activity) → activity ≡ at.SessionIdle → mode_among page (latches_held st activity) ≡ Some held → ⊥
   idle_holds st page held activity idle holds = none-some held (subst (λ (a : Activity). mode_among page (latches_held st a) ≡ Some held) idle holds)
 
   holder_stands : (actor page : ℕ) (held : Mode) → modes m actor page ≡ Some held → m.activity actor ≡ at.SessionIdle → ⊥
-  holder_stands actor page held holds idle = elim (may_or_not actor) [
-    | inl may ↦ idle_holds m.store page held (m.activity actor) idle (sym (fit.exact actor page may) ∙ holds)
-    | inr none ↦ absurd (not_none (modes m actor page) held holds (none_else actor page none))
-  ]
+  holder_stands actor page held holds idle = idle_holds m.store page held (m.activity actor) idle holds
 
   idle_locks : (lock : BoxLock) (activity : Activity) → activity ≡ at.SessionIdle → IsSomeAnd (lock_of activity) (Excludes lock) → ⊥
   idle_locks lock activity idle out = subst (λ (a : Activity). IsSomeAnd (lock_of a) (Excludes lock)) idle out
@@ -173,5 +170,5 @@ module _ (m : Machine) (fit : LatchesFit m) (nobody : HasNobodyElse m) (none_els
   all_by_latch (next ∷ rest) actor last stands (waits, more) = (by_latch actor next stands waits, all_by_latch rest next last (waited_for actor next waits) more)
 
 pub nobody_waits_in_a_circle : NobodyWaitsInACircle
-nobody_waits_in_a_circle m files actor rest fit has nobody none_else walks waits =
-    no_circle m files fit has nobody walks actor rest (all_by_latch m fit nobody none_else rest actor actor (last_stands m fit nobody none_else rest actor actor waits) waits)
+nobody_waits_in_a_circle m files actor rest fit has nobody walks waits =
+    no_circle m files fit has nobody walks actor rest (all_by_latch m rest actor actor (last_stands m rest actor actor waits) waits)

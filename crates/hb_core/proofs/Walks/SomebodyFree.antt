@@ -9,7 +9,7 @@ use Rattle.hb_activity.specs.declared.activities.Activity.TheVariants as at
 use Rattle.hb_core.proofs.Walks.NoCircle.{AwaitsLatch, held_there, in_sequence}
 use Rattle.hb_core.proofs.Facts.StillThere.{may_or_not}
 use Rattle.hb_core.specs.Asking.{wanted_by}
-use Rattle.hb_core.specs.Keeps.{HasNoOtherLatches, HasNobodyElse, HasSoundFile, LatchesFit, WalksInSpace}
+use Rattle.hb_core.specs.Keeps.{HasNobodyElse, HasSoundFile, LatchesFit, WalksInSpace}
 use Rattle.hb_core.specs.Machines.{Files, Machine, current_file}
 use Rattle.hb_core.specs.Performing.{latches_held, mode_among}
 use Rattle.hb_core.specs.SteppingLaws.{IsAtRest}
@@ -27,13 +27,13 @@ rests_free st at.ConsolidatorIdle page mode rests holds = cc
 rests_free st at.Flusher page mode rests holds = cc
 rests_free st activity page mode rests holds = absurd rests
 
-module _ (m : Machine) (files : Files) (fit : LatchesFit m) (has : HasSoundFile m files) (nobody : HasNobodyElse m) (none_else : HasNoOtherLatches m) (walks : WalksInSpace m)
+module _ (m : Machine) (files : Files) (fit : LatchesFit m) (has : HasSoundFile m files) (nobody : HasNobodyElse m) (walks : WalksInSpace m)
     (kept : (other : ℕ) → HasWorkLeft m other → IsKeptWaiting m other) where
   -- who is in the way is at work
   holder_works : (actor page : ℕ) (mode : Mode) → modes m actor page ≡ Some mode → HasWorkLeft m actor
   holder_works actor page mode holds = elim (may_or_not actor) [
-    | inl may ↦ (may, λ rests. rests_free m.store (m.activity actor) page mode rests (sym (fit.exact actor page may) ∙ holds))
-    | inr none ↦ let nothing : None ≡ Some mode = sym (none_else actor page none) ∙ holds in cc
+    | inl may ↦ (may, λ rests. rests_free m.store (m.activity actor) page mode rests holds)
+    | inr none ↦ absurd (rests_free m.store (m.activity actor) page mode (subst IsAtRest (sym (nobody actor none)) tt) holds)
   ]
 
   record IsKeptBy (actor : ℕ) : Type 0 where
@@ -106,4 +106,4 @@ module _ (m : Machine) (files : Files) (fit : LatchesFit m) (has : HasSoundFile 
       below_all (suc next.later.page.level) actor first.waits.wanted next.later.page first.waits.wants_it works next.later.live (omega arith)
 
 pub somebody_goes_on : SomebodyGoesOn
-somebody_goes_on m files actor fit has nobody none_else walks works kept = nobody_stuck m files fit has nobody none_else walks kept actor works
+somebody_goes_on m files actor fit has nobody walks works kept = nobody_stuck m files fit has nobody walks kept actor works

@@ -264,77 +264,23 @@ module _ (m : Machine) (actor : ℕ) (may : ℕ → Type 0) (fetched : StoreStat
 
 -- ---- each step
 
-module _ (m : Machine) (actor : ℕ) (outcome : Outcome) (new : Machine) (latches : IsActor actor) (fit : LatchesFit m) (inside : HoldsPagesOfFile m) (nobody : HasNobodyElse m) (walks : WalksInSpace m) (step : StepsTo m actor outcome new) where
-  other_in_space : (other : ℕ) → other ≢ actor → IsActor other → StandsInSpace new.store (m.activity other)
-  other_in_space other another may = stands_again (m.activity other) m.store new.store (each_stands m walks other)
-      (λ held page on live. let both = other_walks m actor outcome new latches fit inside step other another may held on in both.1.before ∙ sym both.1.after ∙ live)
-      (λ job parent page is live. let latch = parent_latched m.store (m.activity other) job parent is in other_holds m actor outcome new latches fit inside step other another may (m.activity other) parent latch.0 page refl latch.1 live)
-      (λ place is.
-      let latched = place_latched m.store (m.activity other) place is in
-      record {
-        parent = λ page live. other_holds m actor outcome new latches fit inside step other another may (m.activity other) place.parent latched.parent.0 page refl latched.parent.1 live;
-        pair = λ pair held page live. let latch = latched.pair pair held in other_holds m actor outcome new latches fit inside step other another may (m.activity other) pair.keep latch.0 page refl latch.1 live;
-      })
-
-  idle_in_space : (st : StoreState) (activity : Activity) → activity ≡ at.SessionIdle → StandsInSpace st activity
-  idle_in_space st activity is = subst (StandsInSpace st) (sym is) (free_stands st at.SessionIdle (record { walk = refl; latches = λ st. refl; merging = refl }))
-
-  others_in_space : (other : ℕ) → other ≢ actor → new.activity other ≡ m.activity other → StandsInSpace new.store (new.activity other)
-  others_in_space other another same = subst (StandsInSpace new.store) (sym same) (elim (may_or_not other) [
-    | inl may ↦ other_in_space other another may
-    | inr none ↦ idle_in_space new.store (m.activity other) (nobody other none)
-  ])
-
-  with_own : StandsInSpace new.store (new.activity actor) → ((other : ℕ) → other ≢ actor → new.activity other ≡ m.activity other) → WalksInSpace new
-  with_own own others = all_stand new (λ a. elim (cases_Bool (a == actor)) [
-    | inl here ↦ subst (λ (n : ℕ). StandsInSpace new.store (new.activity n)) (sym (eqb-true a actor here)) own
-    | inr off ↦ let another = eqb-false a actor off in others_in_space a another (others a another)
-  ])
-
-  -- all but the disk stays
-  same_but_disk : KeepsAllButDisk m new → WalksInSpace new
-  same_but_disk keeps = with_own
-      (subst (StandsInSpace new.store) (sym (ap (λ (all : ℕ → Activity). all actor) keeps.activity)) (stands_again (m.activity actor) m.store new.store (each_stands m walks actor)
-      (λ held page on live.
-      let old = fit.walking actor held latches on in
-      let latch = walk_latched (m.activity actor) m.store held old.0 on (ap if_live old.1) in
-      ap if_live old.1 ∙ sym (still held latch.0 old.0 latch.1 (ap if_live old.1)) ∙ live)
-      (λ job parent page is live. let latch = parent_latched m.store (m.activity actor) job parent is in still parent latch.0 page latch.1 live)
-      (λ place is.
-      let latched = place_latched m.store (m.activity actor) place is in
-      record {
-        parent = λ page live. still place.parent latched.parent.0 page latched.parent.1 live;
-        pair = λ pair held page live. let latch = latched.pair pair held in still pair.keep latch.0 page latch.1 live;
-      })))
-      (λ other another. ap (λ (all : ℕ → Activity). all other) keeps.activity)
-    where
-      still : (id : ℕ) (mode : Mode) (page : LivePage) → mode_among id (latches_held m.store (m.activity actor)) ≡ Some mode → live_here m.store id ≡ Some page → live_here new.store id ≡ Some page
-      still id mode page among live = ap if_live (keeps.memory id (Live page) (inl (actor, mode, fit.exact actor id latches ∙ among)) (live_so (in_memory m.store id) page live))
-
-  -- a deed is done
-  did : (fetched : StoreState) (deed : Deed) → Performs m fetched actor deed outcome new → StandsInSpace new.store deed.next → WalksInSpace new
-  did fetched deed performs own = with_own (subst (StandsInSpace new.store) (sym (own_next actor deed.next m.activity new.activity performs.activity)) own) (others_next actor deed.next m.activity new.activity performs.activity)
-
-  freed : (fetched : StoreState) (deed : Deed) → Performs m fetched actor deed outcome new → HoldsNothing deed.next → WalksInSpace new
-  freed fetched deed performs free = did fetched deed performs (free_stands new.store deed.next free)
-
-  worked : Works m actor outcome new → WalksInSpace new
-  worked (inl (by, way, so)) = same_but_disk (stays_so m actor outcome new (outcomes.Blocked by) so)
-  worked (inr (inl (free, unready, inl (waits, force)))) = same_but_disk (forces_so m actor outcome new outcomes.Helped force)
-  worked (inr (inl (free, unready, inr (none, rest)))) =
-      ready_kind m outcome new (WalksInSpace new) none (λ more. same_but_disk (more_so m actor outcome new more)) rest
-  worked (inr (inr (free, ready, inl acts))) =
-      did acts.fetched acts.deed acts.performs
-      (placed_in_space m actor _ acts.fetched latches fit inside walks acts.brings acts.deed outcome new acts.performs (place_after m actor acts.fetched _ acts.deed refl acts.row))
-  worked (inr (inr (free, ready, inr (inl gives)))) = freed gives.fetched _ gives.performs (nothing_given_up gives.why (m.activity actor))
-  worked (inr (inr (free, ready, inr (inr meets)))) = same_but_disk (meets_so m actor outcome new meets)
+-- where the pages that an actor holds stay
+pub stands_held : (m : Machine) → LatchesFit m → (actor : ℕ) (st : StoreState) → HasHeld m actor st → StandsInSpace m.store (m.activity actor) → StandsInSpace st (m.activity actor)
+stands_held m fit actor st has stands = stands_again (m.activity actor) m.store st stands
+    (λ held page on live. let both = walk_stays m fit actor held st has on in ap if_live both.1 ∙ sym (ap if_live both.2) ∙ live)
+    (λ job parent page is live. let latch = parent_latched m.store (m.activity actor) job parent is in still parent latch.0 page latch.1 live)
+    (λ place is.
+    let latched = place_latched m.store (m.activity actor) place is in
+    record {
+      parent = λ page live. still place.parent latched.parent.0 page latched.parent.1 live;
+      pair = λ pair held page live. let latch = latched.pair pair held in still pair.keep latch.0 page latch.1 live;
+    })
+  where
+    still : (id : ℕ) (mode : Mode) (page : LivePage) → modes m actor id ≡ Some mode → live_here m.store id ≡ Some page → live_here st id ≡ Some page
+    still id mode page among live = ap if_live (has id mode page among (live_so (in_memory m.store id) page live))
 
 pub walks_stay_in_space : WalksStayInSpace
-walks_stay_in_space m actor outcome new latches fit inside nobody walks step =
-    each_kind m actor outcome new (WalksInSpace new)
-    (λ said quiet so. same_but_disk m actor outcome new latches fit inside nobody walks step (stays_so m actor outcome new said so))
-    (λ said quiet force. same_but_disk m actor outcome new latches fit inside nobody walks step (forces_so m actor outcome new said force))
-    (λ more. same_but_disk m actor outcome new latches fit inside nobody walks step (more_so m actor outcome new more))
-    (λ deed outright performs. freed m actor outcome new latches fit inside nobody walks step m.store deed performs (record { walk = outright.walk; latches = outright.latches; merging = outright.merging }))
-    (worked m actor outcome new latches fit inside nobody walks step)
-    step
+walks_stay_in_space m actor outcome new latches fit inside nobody walks step = all_stand new (each_held m actor outcome new latches fit inside step (λ other activity. StandsInSpace new.store activity)
+    (λ other has. stands_held m fit other new.store has (each_stands m walks other))
+    (free_stands new.store)
+    (λ way acts. placed_in_space m actor _ acts.fetched latches fit inside walks acts.brings acts.deed outcome new acts.performs (place_after m actor acts.fetched _ acts.deed refl acts.row)))

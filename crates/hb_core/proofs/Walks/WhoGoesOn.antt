@@ -33,7 +33,7 @@ use Rattle.hb_core.proofs.Walks.SomebodyFree.{somebody_goes_on}
 use Rattle.hb_core.proofs.Facts.StillThere.{may_or_not}
 use Rattle.hb_core.specs.Asking.{HasWayFree, wanted_by}
 use Rattle.hb_core.specs.Forcing.{FlushesOnce, ForcesAll, StaysSo}
-use Rattle.hb_core.specs.Keeps.{HasNoOtherLatches}
+use Rattle.hb_core.specs.Keeps.{HasNobodyElse}
 use Rattle.hb_core.specs.KeptFits.{LineFits, class_for}
 use Rattle.hb_core.specs.Locking.{HasBoxFree}
 use Rattle.hb_core.specs.KeptMachine.{CoreKeeps}
@@ -60,7 +60,7 @@ below_or_at a n lt = elim (cases_Bool (a == n)) [
   | inr off ↦ let apart = eqb-false a n off in inl (omega (arith, lt, apart))
 ]
 
-module _ (table : LatchTable) (actor page : ℕ) (mode : Mode) where
+module _ (modes : HeldModes) (actor page : ℕ) (mode : Mode) where
   conflict_or_not : (o : Option Mode) → IsSomeAnd o (λ held. ¬ (IsTrue (goes_beside mode held))) ⊎ (¬ (IsSomeAnd o (λ held. ¬ (IsTrue (goes_beside mode held)))))
   conflict_or_not None = inr (λ never. never)
   conflict_or_not (Some held) = elim (cases_Bool (goes_beside mode held)) [
@@ -91,12 +91,12 @@ module _ (table : LatchTable) (actor page : ℕ) (mode : Mode) where
     ]
   ]
 
-module _ (m : Machine) (none_else : HasNoOtherLatches m) where
+module _ (m : Machine) (none_else : HasNobodyElse m) where
   -- only the 19 actors hold latches
   nobody : (actor page : ℕ) (mode : Mode) → ((earlier : ℕ) → earlier < 20 → ¬ (KeepsFrom (modes m) actor page mode earlier)) → (other : ℕ) → ¬ (KeepsFrom (modes m) actor page mode other)
   nobody actor page mode none other keeps = elim (may_or_not other) [
     | inl may ↦ let last = may.to_19 in none other (omega (arith, last)) keeps
-    | inr outside ↦ subst (λ (o : Option Mode). IsSomeAnd o (λ held. ¬ (IsTrue (goes_beside mode held)))) (none_else other page outside) keeps.conflict
+    | inr outside ↦ subst (λ (o : Option Mode). IsSomeAnd o (λ held. ¬ (IsTrue (goes_beside mode held)))) (ap (λ (a : Activity). mode_among page (latches_held m.store a)) (none_else other outside)) keeps.conflict
   ]
 
   free_or_kept : (actor : ℕ) → HasWayFree m actor ⊎ IsKeptWaiting m actor
@@ -262,7 +262,7 @@ module _ (n : RecordSet) (m : Machine) (files : Files) (keeps : CoreKeeps n m fi
 
   -- somebody at work goes on, or nobody is at work
   works_or_none : Somebody ⊎ ((actor : ℕ) → ¬ (HasWorkLeft m actor))
-  works_or_none = elim (first_free m keeps.kept.no_other_latches 20) [
+  works_or_none = elim (first_free m keeps.kept.nobody_else 20) [
     | inl (free, is) ↦ inl (
       free,
       record {
@@ -271,7 +271,7 @@ module _ (n : RecordSet) (m : Machine) (files : Files) (keeps : CoreKeeps n m fi
         forward = λ outcome new step. stepped m free outcome new (m.activity free) is.works.1 is.free (as_it_runs free outcome new step);
       },
     )
-    | inr kept ↦ inr (λ actor works. somebody_goes_on m files actor keeps.kept.latches_fit keeps.sound_file keeps.kept.nobody_else keeps.kept.no_other_latches keeps.kept.walk_in_space works
+    | inr kept ↦ inr (λ actor works. somebody_goes_on m files actor keeps.kept.latches_fit keeps.sound_file keeps.kept.nobody_else keeps.kept.walk_in_space works
         (λ other busy. let last = busy.0.to_19 in kept other (omega (arith, last)) busy))
   ]
 
