@@ -2,12 +2,12 @@
 use Rattle.std.proofs.Common.{◌≡◌, ◌≢◌, inl, inr, ℕ, Option, Some, IfSome, IsTrue, sym, subst}
 use Rattle.hb_latch.specs.declared.modes.Mode.{Mode}
 use Rattle.hb_latch.specs.Modes.{goes_beside}
-use Rattle.hb_latch.specs.Tables.{IsGrantable, mode_at}
+use Rattle.hb_latch.specs.Tables.{IsGrantable}
 use Rattle.hb_activity.specs.declared.wanting.Wanted.{Wanted}
 use Rattle.hb_lemmas.proofs.Options.{at_value}
 use Rattle.hb_core.proofs.Latches.Backing.{ComesFrom}
 use Rattle.hb_core.specs.Keeps.{LatchesFit}
-use Rattle.hb_core.specs.Machines.{Machine}
+use Rattle.hb_core.specs.Machines.{Machine, modes}
 
 module _ (m : Machine) (fit : LatchesFit m) where
   pub both_before : (actor other page : ℕ) (mode held : Mode) → actor ≢ other → modes m actor page ≡ Some mode → modes m other page ≡ Some held → IsTrue (goes_beside mode held)

@@ -1,6 +1,6 @@
 -- What is known of where each actor stands, and stays so while the pages that the actor has latched do: after a step it is to be shown of
 -- the actor that took it alone, where it did a row.
-use Rattle.std.proofs.Common.{◌≡◌, ◌≢◌, inl, inr, ℕ, Some, IsSome, sym, subst}
+use Rattle.std.proofs.Common.{◌≡◌, ◌≢◌, inl, inr, ℕ, sym, subst}
 use Rattle.hb_frag.specs.declared.pages.Page.TheVariants.{Live}
 use Rattle.hb_activity.specs.declared.activities.Activity.{Activity}
 use Rattle.hb_activity.specs.Deeds.{Deed}

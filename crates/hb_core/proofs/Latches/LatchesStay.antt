@@ -1,6 +1,6 @@
 -- After a step all latches are on pages in use, and those on one page go beside each other.
-use Rattle.std.proofs.Common.{◌≡◌, ◌≢◌, ◌⊎◌, inl, inr, ℕ, Some, IfSome, IsTrue, refl, sym, ap, ◌∙◌, subst}
-use Rattle.hb_lemmas.proofs.Options.{at_value, if_value}
+use Rattle.std.proofs.Common.{◌≡◌, ◌≢◌, ◌⊎◌, inl, inr, ℕ, Some, IsTrue, refl, sym, ap, ◌∙◌}
+use Rattle.hb_lemmas.proofs.Options.{if_value}
 use Rattle.hb_frag.specs.declared.pages.LivePage.{LivePage}
 use Rattle.hb_frag.specs.declared.pages.Page.TheVariants.{Live}
 use Rattle.hb_latch.specs.declared.modes.Mode.{Mode}

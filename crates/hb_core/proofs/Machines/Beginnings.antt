@@ -28,7 +28,6 @@ use Rattle.hb_core.specs.KeptSearches.{SearchesAreExact}
 use Rattle.hb_search.specs.Searching.{StaysGathering}
 use Rattle.hb_core.specs.KeptSequence.{IsInSequence, LinesInSequence, awaited_number}
 use Rattle.hb_core.specs.Machines.{Machine, modes}
-use Rattle.hb_core.specs.Performing.{latches_held, mode_among}
 use Rattle.hb_core.specs.SteppingLaws.{BeginningExists, BeginningKeeps, BeginningKeepsAll, IsBegun}
 use Rattle.hb_latch.specs.Modes.{goes_beside}
 use Rattle.hb_space.specs.Actors.{IsActor}

@@ -1,48 +1,40 @@
 -- A machine of which a caller changed no more than the jobs that wait, the pages in memory that nobody holds, and the stop, keeps what it
 -- kept.
-use Rattle.std.proofs.Common.{◌≡◌, inl, inr, ℕ, ◌<◌, ◌≤◌, ◌^◌, List, [], ◌∷◌, length, All, Option, Some, None, IfSome, IsSome, refl, sym, ap, ◌∙◌, subst, arith}
+use Rattle.std.proofs.Common.{◌≡◌, ℕ, ◌<◌, ◌≤◌, ◌^◌, List, [], ◌∷◌, length, All, Option, Some, None, IfSome, refl, sym, ap, ◌∙◌, subst, arith}
+use Rattle.hb_core.proofs.Walks.WorkersKept.{works_held}
+use Rattle.hb_core.proofs.Memory.BroughtPages.{still_held}
+use Rattle.hb_core.proofs.Latches.SameLatches.{fit_again, HasHeld, same_modes}
 use Rattle.std.proofs.lemmas.List.Elements.{All-cons, All-nil, All-weaker}
 use Rattle.hb_activity.specs.declared.activities.Activity.TheVariants as at
 use Rattle.hb_activity.specs.declared.jobs.Job.{Job}
 use Rattle.hb_activity.specs.Classes.{job_in_work, line_in_hand}
-use Rattle.hb_activity.specs.Walks.{walk_held}
 use Rattle.hb_frag.specs.declared.pages.Page.TheVariants.{Live}
-use Rattle.hb_latch.specs.declared.modes.Mode.{Mode}
-use Rattle.hb_latch.specs.Tables.{mode_at}
 use Rattle.hb_layout.specs.declared.meta.Meta.{Meta}
 use Rattle.hb_layout.specs.Limits.{IsLayout}
 use Rattle.hb_layout.specs.Offsets.{log_start}
-use Rattle.hb_lemmas.proofs.Options.{at_value, has_value, if_value}
-use Rattle.hb_ops.proofs.Facts.PageNumberLaws.{live_so}
-use Rattle.hb_ops.specs.Files.{if_live}
+use Rattle.hb_lemmas.proofs.Options.{at_value, if_value}
 use Rattle.hb_pool.specs.Frames.{Use}
 use Rattle.hb_set.specs.Machine.{RecordSet}
-use Rattle.hb_space.specs.Actors.{IsActor}
 use Rattle.hb_store.specs.Calls.{KeepsAllButPages}
-use Rattle.hb_store.specs.States.{StoreState, in_memory}
+use Rattle.hb_store.specs.States.{StoreState}
 use Rattle.hb_store.specs.declared.stops.StopWhy.{StopWhy}
 use Rattle.hb_wal.specs.Log.{Waiting, mark_of}
 use Rattle.hb_core.proofs.Files.SoundFiles.{brought_shown, files_hold, has_sound_file}
-use Rattle.hb_core.proofs.Latches.LatchesStay.{same_latches, walk_latched}
 use Rattle.hb_core.proofs.Machines.AddedJobs.{JobsFit, added_fit}
 use Rattle.hb_core.proofs.Memory.KeptPages.{brought, keeps_pages, pages_kept}
-use Rattle.hb_core.proofs.Facts.StillThere.{may_or_not}
-use Rattle.hb_core.proofs.Room.RoomKept.{KnowsOf, all_know, free_knows, knows_as, put_latched, puts_again, split_latched, splits_again}
+use Rattle.hb_core.proofs.Room.RoomKept.{all_know, knows_held}
 use Rattle.hb_core.proofs.Running.Frames.{fetched_pins}
-use Rattle.hb_core.proofs.Walks.MergesKept.{place_latched}
-use Rattle.hb_core.proofs.Walks.WalksKept.{StandsInSpace, all_stand, each_stands, free_stands, parent_latched, stands_again}
-use Rattle.hb_core.proofs.Walks.WorkersKept.{none_stands, stands_again as works_again}
+use Rattle.hb_core.proofs.Walks.WalksKept.{all_stand, each_stands, stands_held}
 use Rattle.hb_core.specs.Between.{LetsWait, PageComes, with_waiting}
 use Rattle.hb_core.specs.BetweenLaws.{LookingGoesOn, LookingKeepsAll, WaitingGoesOn, WaitingKeepsAll}
 use Rattle.hb_core.specs.Keeps.{HasSoundFile, HoldsPagesOfFile, KnowsRoom, LatchesFit, WalksInSpace}
-use Rattle.hb_core.specs.KeptFits.{AttributesFit, IsBoxOf, JobFits, LineFits, RunsWithStore, WorkersStand, boxes_left, walking_job}
+use Rattle.hb_core.specs.KeptFits.{AttributesFit, IsBoxOf, JobFits, LineFits, RunsWithStore, WorkersStand, boxes_left}
 use Rattle.hb_core.specs.KeptLines.{LinesFit, LogInPlace, MetaWithinLimits}
 use Rattle.hb_core.specs.KeptMachine.{CoreKeeps, MachineKeeps}
 use Rattle.hb_core.specs.KeptOrder.{FollowMarks, HasLegalOrder, HasPendingPrefix, IsSettledIn}
 use Rattle.hb_core.specs.KeptPlaces.{MarksRise, RepliesStand}
 use Rattle.hb_core.specs.KeptSequence.{IsInSequence, LinesInSequence}
-use Rattle.hb_core.specs.Machines.{Files, Machine, live_here, settled_count, stopped_for, with_disk, with_uses}
-use Rattle.hb_core.specs.Performing.{latches_held, mode_among}
+use Rattle.hb_core.specs.Machines.{Files, Machine, settled_count, stopped_for, with_disk, with_uses, modes}
 use Rattle.hb_core.specs.Using.{FramesFit, pins_of}
 use Rattle.hb_core.specs.Working.{MayGoOn}
 

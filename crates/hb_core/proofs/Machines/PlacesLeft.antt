@@ -1,13 +1,12 @@
 -- Where no page is dirty, a frame that must stay is latched, and 19 actors latch two pages each at most: the other frames are places.
 -- An empty log has room. So where nothing is left to flush, a step is ready.
-use Rattle.std.proofs.Common.{◌≡◌, inl, inr, ℕ, ◌+◌, ◌*◌, ◌≤◌, ◌==◌, Bool, true, false, not, ◌||◌, cond, List, [], ◌∷◌, length, Option, Some, None, refl, sym, ap, arith}
+use Rattle.std.proofs.Common.{◌≡◌, inl, inr, ℕ, ◌+◌, ◌*◌, ◌≤◌, ◌==◌, Bool, true, false, not, ◌||◌, cond, List, [], ◌∷◌, length, Some, None, refl, sym, ap, arith}
 use Rattle.std.specs.List.{find, count_by, sum_by}
 use Rattle.std.specs.Option.{is_some, option_map}
 use Rattle.std.proofs.lemmas.List.Sums.{sum_by-cons}
 use Rattle.hb_lemmas.proofs.Booleans.{if_same}
 use Rattle.hb_activity.specs.declared.holding.Latch.{Latch}
 use Rattle.hb_activity.proofs.Facts.HeldLatches.{two_at_most}
-use Rattle.hb_latch.specs.declared.modes.Mode.{Mode}
 use Rattle.hb_pool.specs.Frames.{Use, has_id, must_stay}
 use Rattle.hb_store.specs.Calls.{IsReady}
 use Rattle.hb_store.specs.Held.{oldest_dirty}

@@ -1,12 +1,13 @@
 -- After a step a page that is to be split lacks room for its insert, and of the two halves of a split one has room.
-use Rattle.std.proofs.Common.{◌≡◌, ◌≢◌, ◌⊎◌, inl, inr, ℕ, ◌==◌, ◌<◌, ◌≤◌, cond, List, [], ◌∷◌, length, Option, Some, None, refl, sym, ap, ◌∙◌, subst}
-use Rattle.std.proofs.lemmas.Bool.{cases_Bool, eqb-true, eqb-false}
+use Rattle.std.proofs.Common.{◌≡◌, ◌≢◌, ◌⊎◌, inl, inr, ℕ, ◌==◌, ◌<◌, ◌≤◌, List, [], ◌∷◌, length, Option, Some, None, refl, sym, ap, ◌∙◌, subst}
+use Rattle.hb_core.proofs.Latches.SameLatches.{HasHeld}
+use Rattle.hb_core.proofs.Latches.HeldKept.{each_held}
+use Rattle.hb_core.proofs.Facts.StillThere.{other_held}
 use Rattle.std.proofs.lemmas.Option.{none-some}
 use Rattle.hb_space.specs.declared.records.Record.{Record}
 use Rattle.hb_layout.specs.declared.limits.TheConstants.{DCAP_MIN}
 use Rattle.hb_layout.specs.declared.meta.Meta.{Meta}
 use Rattle.hb_frag.specs.declared.pages.LivePage.{LivePage}
-use Rattle.hb_frag.specs.declared.pages.Page.TheVariants.{Live}
 use Rattle.hb_ops.specs.declared.operations.Op.{Op}
 use Rattle.hb_ops.specs.declared.operations.Op.TheVariants as ops
 use Rattle.hb_set.specs.declared.commands.Command.TheVariants.{Insert}
@@ -21,19 +22,17 @@ use Rattle.hb_activity.specs.Classes.{line_in_hand}
 use Rattle.hb_activity.specs.Deeds.{Deed, does}
 use Rattle.hb_activity.specs.Holding.{latch_on}
 use Rattle.hb_activity.specs.Walks.{walk_held}
-use Rattle.hb_core.proofs.Table.NextPlaces.{HasPlace, HoldsNothing, KeepsParent, PartsFull, TakesFull, nothing_given_up, now, place_after}
+use Rattle.hb_core.proofs.Table.NextPlaces.{HasPlace, HoldsNothing, KeepsParent, PartsFull, TakesFull, now, place_after}
 use Rattle.hb_core.proofs.Room.SplitHalves.{one_has_room, takes_full}
 use Rattle.hb_core.proofs.Room.SplitHome.{RoomLaws}
 use Rattle.hb_core.proofs.Facts.StepKinds.{each_kind, FlushesMore, ready_kind}
-use Rattle.hb_core.proofs.Facts.StillThere.{may_or_not, other_holds}
-use Rattle.hb_core.proofs.Facts.Ways.{KeepsAllButDisk, forces_so, meets_so, stays_so, more_so, own_next, others_next}
 use Rattle.hb_core.specs.Acting.{MeetsBadPage}
 use Rattle.hb_core.specs.Fetching.{Brings, MustStay}
 use Rattle.hb_core.specs.Forcing.{ForcesAll, StaysSo}
 use Rattle.hb_core.specs.KeepingLaws.{RoomStaysKnown}
 use Rattle.hb_core.specs.KeptLines.{MetaWithinLimits}
-use Rattle.hb_core.specs.Keeps.{HasNobodyElse, HasRoomFor, HoldsPagesOfFile, KnowsRoom, LacksRecordAt, LacksRoomFor, LatchesFit, OneHasRoom}
-use Rattle.hb_core.specs.Machines.{Machine, live_here}
+use Rattle.hb_core.specs.Keeps.{HasRoomFor, HoldsPagesOfFile, KnowsRoom, LacksRecordAt, LacksRoomFor, LatchesFit, OneHasRoom}
+use Rattle.hb_core.specs.Machines.{Machine, live_here, modes}
 use Rattle.hb_core.specs.Performing.{MayDo, Performs, latches_held, mode_among}
 use Rattle.hb_core.specs.Steps.{StepsTo, Works}
 use Rattle.hb_frag.specs.Leaves.{weight_of}

@@ -1,13 +1,14 @@
 -- A core that has taken no step shows a machine that has taken none.
 use Rattle.std.proofs.Common.{◌≡◌, inl, inr, ℕ, ◌==◌, cond, Result, Ok, Err, IfOk, ◌-◌, ◌<◌, ◌≤◌, List, [], ◌∷◌, map, get_or, replicate, slice_get, Some, None, IsSome, refl, sym, ap, subst, ◌∙◌, arith}
+use mathlib.Core.Path.{fun_ext}
+use Rattle.hb_core.proofs.Machines.FramesKept.{none_latched}
 use Rattle.std.specs.FinMap as finite
 use Rattle.std.proofs.lemmas.Bool.{cases_lt, false≢true}
 use Rattle.std.proofs.lemmas.List.{get_or-replicate}
 use Rattle.std.proofs.lemmas.Option.{get_or_from_slice_get, slice_get-get_or, slice_get_within, none-some}
 use Rattle.hb_disk.specs.Model.{DiskModel}
-use Rattle.hb_latch.specs.Tables.{LatchTable, latch_cmp, mode_at}
+use Rattle.hb_latch.specs.Tables.{latch_cmp}
 use Rattle.hb_space.specs.Actors.{IsActor}
-use Rattle.hb_latch.proofs.Facts.KeyOrder.{exact_keys, latch_order}
 use Rattle.hb_set.specs.declared.scripts.Answered.{Answered}
 use Rattle.hb_set.specs.declared.scripts.Line.{Line}
 use Rattle.hb_set.specs.Order.{Entry}

@@ -99,8 +99,8 @@ module _ (d : DiskModel) (c after : RunningCore) (m : Machine) (actor : ℕ) (de
   nobody_new : (other : ℕ) → ¬ (IsActor other) → with_activity actor deed.next m.activity other ≡ at.SessionIdle
   nobody_new other none = at_other other actor deed.next (m.activity other) (λ same. none (subst IsActor (sym same) may)) ∙ shows.nobody_else other none
 
-  pub deed_shows : {may_come : ℕ → Type 0} → LatchesFit m → Brings m may_come c.store → (Performs m c.store actor deed outcome new → (other : ℕ) → other ≢ actor → HasHeld m other after.store) → LinesInSequence m → NumberFate (m.activity actor) deed → KeepsFilesBy deed.op d c.store d after.store → (new : Machine) × ((p : Performs m c.store actor deed outcome new) × (p.came ≡ c.uses) × (p.pins ≡ pins)) × ShowsMachine d after new
-  deed_shows {may_come} fit brings held turn fate keeps = (
+  pub deed_shows : (may_come : ℕ → Type 0) → LatchesFit m → Brings m may_come c.store → (Performs m c.store actor deed outcome new → (other : ℕ) → other ≢ actor → HasHeld m other after.store) → LinesInSequence m → NumberFate (m.activity actor) deed → KeepsFilesBy deed.op d c.store d after.store → (new : Machine) × ((p : Performs m c.store actor deed outcome new) × (p.came ≡ c.uses) × (p.pins ≡ pins)) × ShowsMachine d after new
+  deed_shows may_come fit brings held turn fate keeps = (
     new,
     (performed, refl, refl),
     record {

@@ -1,6 +1,8 @@
 -- What the frames of a machine tell of the pages that a step needs: which stay, how few pins they have, and what a page that comes makes
 -- of that.
 use Rattle.std.proofs.Common.{◌≡◌, inl, inr, ℕ, ◌+◌, ◌<◌, ◌≤◌, true, false, List, [], cond, Option, Some, None, IsSome, IsTrue, refl, sym, ap, subst, ◌∙◌, arith}
+use Rattle.hb_core.specs.Performing.{latches_held, mode_among}
+use Rattle.hb_activity.specs.declared.activities.Activity.{Activity}
 use Rattle.std.specs.FinSet as set
 use Rattle.std.specs.Ordering.{nat_cmp}
 use Rattle.std.specs.Option.{IsSomeAnd, is_some, option_map_or}
@@ -24,7 +26,7 @@ use Rattle.hb_core.proofs.Facts.StillThere.{may_or_not}
 use Rattle.hb_core.proofs.Running.Pins.{few_pins, times_first}
 use Rattle.hb_core.specs.Fetching.{MustStay}
 use Rattle.hb_core.specs.KeptMachine.{MachineKeeps}
-use Rattle.hb_core.specs.Machines.{Machine}
+use Rattle.hb_core.specs.Machines.{Machine, modes}
 use Rattle.hb_core.specs.Using.{actors, holders, page_wanted, pins_of}
 use Rattle.hb_core.specs.Showing.{RunningCore}
 use Rattle.hb_core.specs.Working.{MayStep}

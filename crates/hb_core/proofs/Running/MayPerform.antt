@@ -1,9 +1,10 @@
 -- What a decider said may be performed: its operation may be committed, its actor may stand as it says, a line that joins the order has room,
 -- and the pages that came are those that the row needs.
 use Rattle.std.proofs.Common.{◌≡◌, ◌⊎◌, inl, inr, ℕ, ◌<◌, List, length, Option, IsSome, IsTrue, IfSome, refl, sym, ap, subst, arith, ◌++◌, None, Some}
+use Rattle.hb_latch.specs.Tables.{mode_at, HeldModes}
+use Rattle.hb_core.proofs.Memory.BroughtPages.{same_held}
 use Rattle.std.proofs.lemmas.Bool.{false≢true}
 use Rattle.hb_disk.specs.Model.{DiskModel}
-use Rattle.hb_latch.specs.Tables.{LatchTable}
 use Rattle.hb_space.specs.Actors.{IsActor}
 use Rattle.hb_ops.specs.declared.operations.Op.{Op}
 use Rattle.hb_ops.specs.Files.{FileState}
@@ -30,7 +31,7 @@ use Rattle.hb_core.specs.Acting.{takes_number}
 use Rattle.hb_core.specs.Asking.{wanted_by}
 use Rattle.hb_core.specs.Fetching.{Brings, IsFreeHead, IsWantedPage}
 use Rattle.hb_core.specs.MachineLaws.{RowsMayBeDone}
-use Rattle.hb_core.specs.Machines.{Machine, with_disk, with_uses}
+use Rattle.hb_core.specs.Machines.{Machine, with_disk, with_uses, modes}
 use Rattle.hb_core.specs.Pinning.{CanMovePins}
 use Rattle.hb_core.specs.Using.{page_wanted, pages_of, use_done, use_number, use_wanted}
 use Rattle.hb_core.specs.Performing.{latches_held}

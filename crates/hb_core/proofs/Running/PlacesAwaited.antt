@@ -4,7 +4,7 @@ use Rattle.hb_activity.specs.declared.activities.Activity.{Activity}
 use Rattle.hb_activity.specs.declared.activities.Activity.TheVariants as at
 use Rattle.hb_activity.specs.Deeds.{answers_now}
 use Rattle.hb_disk.specs.Model.{DiskModel}
-use Rattle.hb_latch.specs.Tables.{LatchTable, mode_at}
+use Rattle.hb_latch.specs.Tables.{mode_at, HeldModes}
 use Rattle.hb_space.specs.Actors.{IsActor}
 use Rattle.hb_set.specs.declared.commands.Reply.{Reply}
 use Rattle.hb_pool.specs.Frames.{Use}

@@ -1,5 +1,6 @@
 -- What a core performs by its decider's answer is the row of the machine that it shows.
 use Rattle.std.proofs.Common.{◌≡◌, ℕ, ◌<◌, ◌^◌, ◌++◌, List, length, arith, Option, IsSome, IfSome, IfOk, Result, Ok, Err, sym, ap, ◌∙◌, subst}
+use Rattle.hb_latch.specs.Tables.{mode_at}
 use Rattle.hb_activity.specs.declared.activities.Activity.{Activity}
 use Rattle.hb_activity.specs.declared.wanting.Wanted.{Wanted}
 use Rattle.hb_activity.specs.declared.deciding.Next.{Next}

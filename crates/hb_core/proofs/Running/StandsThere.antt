@@ -6,7 +6,6 @@ use Rattle.hb_frag.specs.declared.pages.LivePage.{LivePage}
 use Rattle.hb_latch.specs.declared.modes.Mode.{Mode}
 use Rattle.hb_latch.specs.declared.modes.Mode.TheVariants.{Exclusive, Shared, Update}
 use Rattle.hb_latch.specs.Modes.{goes_beside}
-use Rattle.hb_latch.specs.Tables.{mode_at}
 use Rattle.hb_space.specs.Actors.{IsActor}
 use Rattle.hb_ops.specs.Files.{if_live}
 use Rattle.hb_set.specs.declared.scripts.Line.{Line}
@@ -28,7 +27,7 @@ use Rattle.hb_core.specs.Asking.{wanted_by}
 use Rattle.hb_core.specs.Fetching.{Brings}
 use Rattle.hb_core.specs.KeptMachine.{MachineKeeps}
 use Rattle.hb_core.specs.KeptMerges.{AtParent, KeepsPair, NamesKnown, PairHeld, merging_at}
-use Rattle.hb_core.specs.Machines.{Machine, live_here, with_disk}
+use Rattle.hb_core.specs.Machines.{Machine, live_here, with_disk, modes}
 use Rattle.hb_core.specs.Moving.{AreApart, MayStand}
 use Rattle.hb_core.specs.Performing.{MayDo, latches_held}
 use Rattle.hb_core.specs.Rows.{Row}

@@ -8,7 +8,7 @@ use Rattle.hb_activity.specs.Wanting.{may_commit}
 use Rattle.hb_activity.specs.Classes.{Hand, Empty, HasJob, HasLine, class_of, hand_of, idle_of}
 use Rattle.hb_activity.specs.Deeds.{Deed}
 use Rattle.hb_disk.specs.Model.{DiskModel}
-use Rattle.hb_latch.specs.Tables.{IsGrantable, IsLeastInTheWay, LatchTable}
+use Rattle.hb_latch.specs.Tables.{IsGrantable, IsLeastInTheWay, mode_at, HeldModes}
 use Rattle.hb_space.specs.Actors.{IsActor}
 use Rattle.hb_store.specs.declared.stops.StopWhy.{StopWhy}
 use Rattle.hb_store.specs.declared.stops.StopWhy.TheVariants.{Damaged, WriteFault}
@@ -33,7 +33,7 @@ use Rattle.hb_core.specs.Moving.{DoesDeed, StandsAs, number_of, with_stop}
 use Rattle.hb_core.specs.Showing.{RunningCore, ShowsMachine, number_in_hand}
 use Rattle.hb_core.specs.Steps.{IsUnready, Works}
 use Rattle.hb_core.specs.Working.{Halts, IsWorking, MayStep, MayWork, with_memory}
-use Rattle.hb_core.proofs.Running.DeedShows.{deed_shows}
+use Rattle.hb_core.proofs.Running.DeedShows.{deed_shows, nothing_moves}
 use Rattle.hb_core.proofs.Running.ForcedShows.{shown_stopped}
 use Rattle.hb_core.proofs.Running.LineTaken.{keeps_none}
 use Rattle.hb_core.proofs.Running.Looks.{may_look_now}
@@ -123,7 +123,7 @@ module _ {D : Type 0} (model : D → DiskModel) (x y : D) (c after : RunningCore
       let same_pins = came_stays (wanted_by m actor) m.store.meta m.uses c.uses work.goes_on.kept.frames_fit.tied.pool.distinct halts.used_is in
       let stay : (id : ℕ) → MustStay m id → StaysHere c.uses id = must_here m c.store c.uses work.goes_on.kept (ap (λ (s : StoreState). s.dirty) halts.brings.rest) halts.tied (λ q. let pins = same_pins.pins q in omega (arith, pins)) in
       let none : deed.op ≡ None = no_operation why (idle_of (class_of (m.activity actor))) (hand_of (m.activity actor)) in
-      let shown = deed_shows (model x) c after m actor deed outcome may halts.shows pins done stay work.goes_on.kept.latches_fit halts.brings (nothing_moves m _ c.store deed actor outcome _ halts.brings none) work.goes_on.kept.lines_in_sequence (given_up_number m why (m.activity actor) work.working)
+      let shown = deed_shows (model x) c after m actor deed outcome may halts.shows pins done stay _ work.goes_on.kept.latches_fit halts.brings (nothing_moves m _ c.store deed actor outcome _ halts.brings none) work.goes_on.kept.lines_in_sequence (given_up_number m why (m.activity actor) work.working)
       (keeps_none (model x) c.store after.store _ deed.op none done.store) in (
         shown.0,
         inr (inr (work.free, work.ready, inr (inl (record { why = why; fetched = c.store; brings = halts.brings; cause = halts.cause; performs = shown.1.0; came = subst (CameFor (wanted_by m actor) m.store.meta m.uses) (sym shown.1.1) halts.used_is; pins = shown.1.2 ∙ pinned })))),

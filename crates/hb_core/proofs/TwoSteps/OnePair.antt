@@ -27,12 +27,12 @@ use Rattle.hb_core.specs.Acting.{Abandons, DoesRow, MeetsBadPage}
 use Rattle.hb_core.specs.Asking.{wanted_by}
 use Rattle.hb_core.specs.Forcing.{BeginsTurn, FailsToWrite, Flushes, FlushesOnce, FlushesRest, ForcesAll, HasDirtyPage, StaysSo, WritesOldest}
 use Rattle.hb_core.specs.Locking.{IsBoxInTheWay}
-use Rattle.hb_core.specs.Machines.{Machine, with_disk, with_uses}
+use Rattle.hb_core.specs.Machines.{Machine, with_disk, with_uses, modes}
 use Rattle.hb_core.specs.OutcomeLaws.{IsTurnedAside}
 use Rattle.hb_core.specs.Performing.{ChangesQueue, PerformsAsItIs}
 use Rattle.hb_core.specs.Steps.{BeginsLine, TakesJob, TakesMerging, AwaitsPlace, GetsReady, StepsAs, StepsTo, TakesJobToMerge, TakesPosting, Works}
 use Rattle.hb_latch.specs.Modes.{goes_beside}
-use Rattle.hb_latch.specs.Tables.{IsGrantable, IsLeastInTheWay, LatchTable, mode_at}
+use Rattle.hb_latch.specs.Tables.{IsGrantable, IsLeastInTheWay, HeldModes}
 use Rattle.hb_point.specs.SessionRows.{next_line, taking}
 use Rattle.hb_pool.specs.Frames.{clean}
 use Rattle.hb_pool.specs.Pools.{in_place}

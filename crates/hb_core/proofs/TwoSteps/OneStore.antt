@@ -1,6 +1,6 @@
 -- A deed that is done over two fetches from one machine leads to machines that are one.
 use Rattle.std.proofs.Common.{◌≡◌, ◌⊎◌, inl, inr, ℕ, ◌==◌, Bool, true, false, cond, ◌||◌, ◌++◌, List, [], ◌∷◌, length, map, Option, Some, None, IfSome, refl, sym, ap, ◌∙◌, subst}
-use Rattle.std.proofs.lemmas.Bool.{cases_eq, false≢true}
+use Rattle.std.proofs.lemmas.Bool.{false≢true}
 use Rattle.std.proofs.lemmas.Cmp.{nat_cmp_total}
 use Rattle.std.proofs.lemmas.Option.{same_Some}
 use Rattle.std.specs.Option.{is_some, option_and_then}
@@ -20,9 +20,8 @@ use Rattle.hb_core.proofs.TwoSteps.OneFetch.{Agree}
 use Rattle.hb_core.proofs.TwoSteps.OnePiece.{one_queue}
 use Rattle.hb_core.specs.Machines.{Machine, live_here}
 use Rattle.hb_core.specs.OutcomeLaws.{AreOne}
-use Rattle.hb_core.specs.Performing.{DoesOp, MayDo, Performs, latches_held, mode_among}
+use Rattle.hb_core.specs.Performing.{DoesOp, MayDo, Performs, latches_held}
 use Rattle.hb_core.specs.Using.{pages_of, use_done, use_held}
-use Rattle.hb_latch.specs.Tables.{mode_at}
 use Rattle.hb_log_codec.specs.Groups.{Logged, group_bytes}
 use Rattle.hb_ops.specs.Files.{if_live}
 use Rattle.hb_ops.specs.Operations.{Change, IsAllowedOn, change_of, reads_of}

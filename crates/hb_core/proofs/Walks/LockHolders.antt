@@ -14,7 +14,7 @@ use Rattle.hb_core.specs.Asking.{IsInTheWay, looked_live}
 use Rattle.hb_core.specs.Keeps.{HasNobodyElse}
 use Rattle.hb_boxlock.specs.Locking.{Excludes}
 use Rattle.hb_core.specs.Locking.{LocksOut}
-use Rattle.hb_core.specs.Machines.{Machine}
+use Rattle.hb_core.specs.Machines.{Machine, modes}
 use Rattle.hb_core.specs.SteppingLaws.{IsAtRest}
 use Rattle.hb_core.specs.WaitingLaws.{HasWorkLeft, IsKeptBack, IsKeptWaiting, IsUnderWay, LockHoldersWork, SomebodyUnderWayGoesOn}
 

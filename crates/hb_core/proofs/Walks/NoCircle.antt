@@ -14,13 +14,12 @@ use Rattle.hb_core.proofs.Walks.LaterWanted.{wanted_comes_later}
 use Rattle.hb_core.proofs.Facts.StillThere.{may_or_not}
 use Rattle.hb_core.specs.Asking.{looked_live, wanted_by}
 use Rattle.hb_core.specs.Keeps.{HasNobodyElse, HasSoundFile, LatchesFit, WalksInSpace}
-use Rattle.hb_core.specs.Machines.{Files, Machine, current_file}
+use Rattle.hb_core.specs.Machines.{Files, Machine, current_file, modes}
 use Rattle.hb_core.specs.Performing.{latches_held, mode_among}
 use Rattle.hb_boxlock.specs.Locking.{Excludes}
 use Rattle.hb_core.specs.Locking.{LocksOut}
 use Rattle.hb_core.specs.WaitingLaws.{AwaitsActor, ComesLater, NobodyWaitsInACircle, WaitInSequence, WantsItsOwn}
 use Rattle.hb_latch.specs.Modes.{goes_beside}
-use Rattle.hb_latch.specs.Tables.{mode_at}
 use Rattle.hb_space.specs.Actors.{IsActor}
 use Rattle.hb_ops.specs.Files.{FileState}
 use Rattle.hb_activity.specs.BoxLocks.{lock_of, lock_of_command}
@@ -28,7 +27,6 @@ use Rattle.hb_boxlock.specs.declared.locks.BoxLock.{BoxLock}
 use Rattle.hb_point.specs.SessionRows.{next_line}
 use Rattle.hb_set.specs.declared.scripts.Line.{Line}
 use Rattle.hb_store.specs.States.{StoreState}
-use Rattle.hb_lemmas.proofs.Options.{not_none}
 
 -- an actor waits for another one's latch, and so on, to the last
 abbrev pub AwaitsLatch : Machine → ℕ → ℕ → Type 0

@@ -10,11 +10,11 @@ use Rattle.hb_core.proofs.Walks.NoCircle.{AwaitsLatch, held_there, in_sequence}
 use Rattle.hb_core.proofs.Facts.StillThere.{may_or_not}
 use Rattle.hb_core.specs.Asking.{wanted_by}
 use Rattle.hb_core.specs.Keeps.{HasNobodyElse, HasSoundFile, LatchesFit, WalksInSpace}
-use Rattle.hb_core.specs.Machines.{Files, Machine, current_file}
+use Rattle.hb_core.specs.Machines.{Files, Machine, current_file, modes}
 use Rattle.hb_core.specs.Performing.{latches_held, mode_among}
 use Rattle.hb_core.specs.SteppingLaws.{IsAtRest}
 use Rattle.hb_core.specs.WaitingLaws.{ComesLater, HasWorkLeft, IsKeptWaiting, SomebodyGoesOn}
-use Rattle.hb_latch.specs.Tables.{IsLeastInTheWay, mode_at}
+use Rattle.hb_latch.specs.Tables.{IsLeastInTheWay}
 use Rattle.hb_ops.specs.Files.{live_page}
 use Rattle.hb_space.specs.Boxes.{volume}
 use Rattle.hb_store.specs.States.{StoreState}

@@ -1,8 +1,8 @@
 -- After a step the page that a walk holds has the walk's point in its box, and the parent that a poster holds a child leaf there.
 use Rattle.std.proofs.Common.{◌≡◌, ◌≢◌, ◌⊎◌, inl, inr, ℕ, ◌==◌, List, [], Option, Some, None, IfSome, IsSome, refl, sym, ap, ◌∙◌, subst}
-use Rattle.std.proofs.lemmas.Bool.{cases_Bool, eqb-true, eqb-false}
+use Rattle.hb_core.proofs.Latches.SameLatches.{walk_stays, HasHeld}
+use Rattle.hb_core.proofs.Latches.HeldKept.{each_held}
 use Rattle.hb_frag.specs.declared.pages.LivePage.{LivePage}
-use Rattle.hb_frag.specs.declared.pages.Page.TheVariants.{Live}
 use Rattle.hb_set.specs.declared.scripts.Line.{Line}
 use Rattle.hb_latch.specs.declared.modes.Mode.{Mode}
 use Rattle.hb_latch.specs.declared.modes.Mode.TheVariants.{Update, Exclusive}
@@ -22,19 +22,16 @@ use Rattle.hb_frag.specs.declared.leaves.Leaf.{Leaf}
 use Rattle.hb_frag.specs.declared.leaves.Leaf.TheVariants.{Records, Child, Sibling}
 use Rattle.hb_activity.specs.Walks.{walk_held, walk_point}
 use Rattle.hb_core.proofs.Memory.BroughtPages.{own_there}
-use Rattle.hb_core.proofs.Latches.LatchesStay.{walk_latched}
 use Rattle.hb_core.proofs.Walks.MergesKept.{HasMergePlace, PlaceStays, merged_place, named_again, none_named, place_latched, known_at, place_stays}
-use Rattle.hb_core.proofs.Table.NextPlaces.{HasPlace, HoldsNothing, KeepsParent, MergesOn, TakesParent, WalksTo, nothing_given_up, now, place_after}
-use Rattle.hb_core.proofs.Facts.StepKinds.{each_kind, ready_kind}
-use Rattle.hb_core.proofs.Facts.StillThere.{fetched_good, may_or_not, other_holds, other_walks}
-use Rattle.hb_core.proofs.Facts.Ways.{KeepsAllButDisk, forces_so, meets_so, stays_so, more_so, nothing_done, own_next, others_next}
+use Rattle.hb_core.proofs.Table.NextPlaces.{HasPlace, HoldsNothing, KeepsParent, MergesOn, TakesParent, WalksTo, now, place_after}
+use Rattle.hb_core.proofs.Facts.StillThere.{fetched_good}
+use Rattle.hb_core.proofs.Facts.Ways.{nothing_done}
 use Rattle.hb_core.specs.Fetching.{Brings}
 use Rattle.hb_core.specs.KeepingLaws.{WalksStayInSpace}
-use Rattle.hb_core.specs.Keeps.{HasNobodyElse, HoldsPagesOfFile, LatchesFit, WalksInSpace}
+use Rattle.hb_core.specs.Keeps.{HoldsPagesOfFile, LatchesFit, WalksInSpace}
 use Rattle.hb_core.specs.KeptMerges.{AtParent, NamesKnown, merging_at}
-use Rattle.hb_core.specs.Machines.{Machine, live_here}
+use Rattle.hb_core.specs.Machines.{Machine, live_here, modes}
 use Rattle.hb_core.specs.Performing.{Performs, latches_held, mode_among}
-use Rattle.hb_core.specs.Steps.{StepsTo, Works}
 use Rattle.hb_space.specs.Actors.{IsActor}
 use Rattle.hb_ops.proofs.Facts.Tips.{first_held}
 use Rattle.hb_ops.specs.Files.{if_live}
@@ -43,7 +40,7 @@ use Rattle.hb_store.specs.States.{StoreState, in_memory}
 use Rattle.hb_ops.proofs.Facts.PageNumberLaws.{live_so}
 use Rattle.std.proofs.lemmas.Option.{none-some}
 use Rattle.hb_lemmas.proofs.Lists.{not_empty}
-use Rattle.hb_lemmas.proofs.Booleans.{at_itself}
+use Rattle.hb_lemmas.proofs.Booleans.{at_itself, at_other}
 
 abbrev pub IsAtParent : Activity → Job → ℕ → Type 0
 IsAtParent activity job parent = (activity ≡ at.PosterChild job parent) ⊎ (activity ≡ at.PosterPromote job parent) ⊎ (activity ≡ at.PosterAgain job parent)

@@ -7,7 +7,7 @@ use Rattle.std.proofs.lemmas.Bool.{cases_Bool, eq-eqb, eqb-false, eqb-true, fals
 use Rattle.std.proofs.lemmas.List.Elements.{All-contains}
 use Rattle.hb_latch.specs.declared.modes.Mode.{Mode}
 use Rattle.hb_latch.specs.Modes.{goes_beside}
-use Rattle.hb_latch.specs.Tables.{IsGrantable, IsLeastInTheWay, KeepsFrom, LatchTable, mode_at}
+use Rattle.hb_latch.specs.Tables.{IsGrantable, IsLeastInTheWay, KeepsFrom, HeldModes}
 use Rattle.hb_space.specs.Actors.{IsActor}
 use Rattle.hb_latch.proofs.Facts.InTheWay.{nobody_keeps, none_keeps}
 use Rattle.hb_set.specs.declared.commands.Reply.{Reply}
@@ -37,8 +37,8 @@ use Rattle.hb_core.specs.Keeps.{HasNobodyElse}
 use Rattle.hb_core.specs.KeptFits.{LineFits, class_for}
 use Rattle.hb_core.specs.Locking.{HasBoxFree}
 use Rattle.hb_core.specs.KeptMachine.{CoreKeeps}
-use Rattle.hb_core.specs.Machines.{Files, Machine}
-use Rattle.hb_core.specs.Performing.{Performs, outcome_of}
+use Rattle.hb_core.specs.Machines.{Files, Machine, modes}
+use Rattle.hb_core.specs.Performing.{Performs, outcome_of, latches_held, mode_among}
 use Rattle.hb_core.specs.ProgressLaws.{GoesForward, GoesOnNow, HasSomethingLeft, SomebodyGoesOnNow}
 use Rattle.hb_core.specs.SteppingLaws.{IsAtRest}
 use Rattle.hb_core.specs.Steps.{AwaitsPlace, BeginsLine, StepsAs, StepsTo, TakesJobToMerge, TakesPosting, Works}
@@ -68,17 +68,17 @@ module _ (modes : HeldModes) (actor page : ℕ) (mode : Mode) where
     | inr apart ↦ inl (λ beside. false≢true (sym apart ∙ beside))
   ]
 
-  keeps_or_not : (other : ℕ) → KeepsFrom table actor page mode other ⊎ (¬ (KeepsFrom table actor page mode other))
+  keeps_or_not : (other : ℕ) → KeepsFrom modes actor page mode other ⊎ (¬ (KeepsFrom modes actor page mode other))
   keeps_or_not other = elim (cases_Bool (other == actor)) [
     | inl same ↦ inr (λ keeps. keeps.another (eqb-true other actor same))
-    | inr off ↦ elim (conflict_or_not (mode_at table other page)) [
+    | inr off ↦ elim (conflict_or_not (modes other page)) [
       | inl conflict ↦ inl (record { another = eqb-false other actor off; conflict = conflict })
       | inr none ↦ inr (λ keeps. none keeps.conflict)
     ]
   ]
 
   -- the least actor in the way, below a number
-  least_below : (n : ℕ) → ((earlier : ℕ) → earlier < n → ¬ (KeepsFrom table actor page mode earlier)) ⊎ ((by : ℕ) × IsLeastInTheWay table actor page mode by)
+  least_below : (n : ℕ) → ((earlier : ℕ) → earlier < n → ¬ (KeepsFrom modes actor page mode earlier)) ⊎ ((by : ℕ) × IsLeastInTheWay modes actor page mode by)
   least_below zero = inl (λ earlier lt. absurd (omega (arith, lt)))
   least_below (suc n) = elim (least_below n) [
     | inr found ↦ inr found
@@ -86,7 +86,7 @@ module _ (modes : HeldModes) (actor page : ℕ) (mode : Mode) where
       | inl keeps ↦ inr (n, record { keeps = keeps; least = none })
       | inr not_it ↦ inl (λ earlier lt. elim (below_or_at earlier n lt) [
         | inl below ↦ none earlier below
-        | inr is ↦ subst (λ (k : ℕ). ¬ (KeepsFrom table actor page mode k)) (sym is) not_it
+        | inr is ↦ subst (λ (k : ℕ). ¬ (KeepsFrom modes actor page mode k)) (sym is) not_it
       ])
     ]
   ]

@@ -1,6 +1,8 @@
 -- After a step a walking worker's job is below the file's height, and its page of the job's level or above it.
 use Rattle.std.proofs.Common.{◌≡◌, ◌≢◌, ◌⊎◌, inl, inr, ℕ, ◌<◌, ◌≤◌, ◌==◌, Option, Some, None, IfSome, refl, sym, ap, ◌∙◌, subst, arith}
-use Rattle.std.proofs.lemmas.Bool.{cases_Bool, eqb-true, eqb-false}
+use Rattle.hb_core.specs.Keeps.{LatchesFit}
+use Rattle.hb_core.proofs.Latches.SameLatches.{walk_stays, HasHeld}
+use Rattle.hb_core.proofs.Facts.StillThere.{other_held}
 use Rattle.std.proofs.lemmas.Option.{none-some, same_Some}
 use Rattle.hb_frag.specs.declared.leaves.Leaf.{Leaf}
 use Rattle.hb_frag.specs.declared.leaves.Leaf.TheVariants.{Records, Child, Sibling}
@@ -15,9 +17,7 @@ use Rattle.hb_activity.specs.Passing.{LeadsBelow}
 use Rattle.hb_activity.specs.Walks.{walk_held}
 use Rattle.hb_consol.specs.ConsolidatorRows.{IsMergingOf}
 use Rattle.hb_core.proofs.Table.DeedKinds.{each_again, each_deed}
-use Rattle.hb_core.proofs.Latches.LatchesStay.{walk_latched}
 use Rattle.hb_core.proofs.Memory.MetaKept.{deed_keeps_meta}
-use Rattle.hb_core.proofs.Facts.StillThere.{may_or_not, other_walks}
 use Rattle.hb_core.proofs.Walks.WalkingWorkers.{WalksAsWorker, WalksOn, empty_has_none, walk_after, walk_wants_above}
 use Rattle.hb_core.proofs.Facts.Ways.{KeepsAllButDisk, nothing_done}
 use Rattle.hb_core.specs.Acting.{DoesRow}
