@@ -7,27 +7,21 @@ use Rattle.hb_latch.specs.declared.modes.Mode.{Mode}
 use Rattle.hb_layout.specs.declared.meta.Meta.{Meta}
 use Rattle.hb_activity.specs.declared.activities.Activity.{Activity}
 use Rattle.hb_core.specs.declared.outcomes.Outcome.{Outcome}
-use Rattle.hb_activity.specs.Walks.{walk_held}
-use Rattle.hb_core.proofs.Latches.SameLatches.{HasHeld, same_mode, walk_stays}
+use Rattle.hb_core.proofs.Latches.SameLatches.{HasHeld, same_mode}
 use Rattle.hb_core.proofs.Memory.OwnPages.{held_pages_stay}
 use Rattle.hb_core.proofs.Facts.Ways.{others_stand}
 use Rattle.hb_core.specs.Fetching.{Brings}
 use Rattle.hb_core.specs.KeepingLaws.{NobodyElseComes}
-use Rattle.hb_core.specs.Keeps.{HoldsPagesOfFile, LatchesFit}
+use Rattle.std.proofs.lemmas.Option.{none-some}
+use Rattle.hb_core.specs.Keeps.{HasNobodyElse, HoldsPagesOfFile, LatchesFit}
 use Rattle.hb_core.specs.Laws.{OthersStay}
 use Rattle.hb_core.specs.Machines.{Machine, live_here, modes}
 use Rattle.hb_core.specs.Performing.{latches_held, mode_among}
 use Rattle.hb_core.specs.Steps.{StepsTo}
 use Rattle.hb_space.specs.Actors.{IsActor}
-use Rattle.hb_ops.specs.Files.{if_live}
 use Rattle.hb_ops.specs.Sound.{FitsFile}
 use Rattle.hb_store.specs.States.{IsGoodPage, StoreState, in_memory}
 use Rattle.hb_ops.proofs.Facts.PageNumberLaws.{live_so}
-
--- a page in use stands in both memories
-pub record StandsInBoth (old new : StoreState) (id : ℕ) (page : LivePage) : Type 0 where
-  pub before : live_here old id ≡ Some page
-  pub after : live_here new id ≡ Some page
 
 -- whether a number is that of an actor
 pub may_or_not : (actor : ℕ) → IsActor actor ⊎ (¬ (IsActor actor))
@@ -37,6 +31,13 @@ may_or_not actor = elim (cases_Bool (nat_le 1 actor)) [
     | inr above ↦ let gt = leb-false actor 19 above in inr (λ may. omega (arith, gt, may.to_19))
   ]
   | inr none ↦ let lt = leb-false 1 actor none in inr (λ may. omega (arith, lt, may.from_1))
+]
+
+-- who has latched a page is one
+pub holder_may : (m : Machine) → HasNobodyElse m → (actor page : ℕ) (mode : Mode) → modes m actor page ≡ Some mode → IsActor actor
+holder_may m nobody actor page mode holds = elim (may_or_not actor) [
+  | inl may ↦ may
+  | inr none ↦ absurd (none-some mode (sym (ap (λ (a : Activity). mode_among page (latches_held m.store a)) (nobody actor none)) ∙ holds))
 ]
 
 pub nobody_else_comes : NobodyElseComes
@@ -63,15 +64,6 @@ module _ (m : Machine) (actor : ℕ) (outcome : Outcome) (new : Machine) (latche
 
   pub other_modes : (page : ℕ) → modes new other page ≡ modes m other page
   other_modes = same_mode m fit new other (others_stand m actor outcome new step other another) other_held
-
-  pub other_holds : (activity : Activity) (id : ℕ) (mode : Mode) (page : LivePage) → m.activity other ≡ activity → mode_among id (latches_held m.store activity) ≡ Some mode → live_here m.store id ≡ Some page → live_here new.store id ≡ Some page
-  other_holds activity id mode page is among live =
-      ap if_live (other_held id mode page (subst (λ (a : Activity). mode_among id (latches_held m.store a) ≡ Some mode) (sym is) among) (live_so (in_memory m.store id) page live))
-
-  -- and so does the page that its walk holds
-  pub other_walks : (held : ℕ) → walk_held (m.activity other) ≡ Some held → (page : LivePage) × StandsInBoth m.store new.store held page
-  other_walks held walks =
-      let both = walk_stays m fit other held new.store other_held walks in (both.0, record { before = ap if_live both.1; after = ap if_live both.2 })
 
 -- so no other actor stands elsewhere after a step, or has other latches
 pub others_stay : OthersStay

@@ -12,6 +12,7 @@ use Rattle.hb_activity.specs.declared.activities.Activity.{Activity}
 use Rattle.hb_activity.specs.declared.activities.Activity.TheVariants as at
 use Rattle.hb_activity.specs.Holding.{walk_latch}
 use Rattle.hb_activity.specs.Walks.{job_mode, session_mode, walk_held}
+use Rattle.hb_ops.proofs.Facts.PageNumberLaws.{live_so}
 use Rattle.hb_ops.specs.Files.{if_live}
 use Rattle.hb_store.specs.States.{StoreState, in_memory}
 use Rattle.hb_core.specs.Keeps.{LatchesFit}
@@ -48,6 +49,10 @@ walk_latched activity st held page is live = cc
 -- the pages that an actor holds are in a memory, as they were
 abbrev pub HasHeld : Machine → ℕ → StoreState → Type 0
 HasHeld m actor st = (id : ℕ) (mode : Mode) (page : LivePage) → modes m actor id ≡ Some mode → in_memory m.store id ≡ Some (Live page) → in_memory st id ≡ Some (Live page)
+
+-- so pages in use stay
+pub live_held : (m : Machine) (actor : ℕ) (st : StoreState) → HasHeld m actor st → (id : ℕ) (mode : Mode) (page : LivePage) → modes m actor id ≡ Some mode → live_here m.store id ≡ Some page → live_here st id ≡ Some page
+live_held m actor st has id mode page holds live = ap if_live (has id mode page holds (live_so (in_memory m.store id) page live))
 
 module _ (m : Machine) (fit : LatchesFit m) where
   -- the page that a walk holds stays with the pages that are held

@@ -1,5 +1,5 @@
 -- Every step keeps that the frames are those of the pages in memory, and that a page is pinned as many times as actors have latched it.
-use Rattle.std.proofs.Common.{◌≡◌, inl, inr, ℕ, ◌≤◌, List, [], ◌++◌, Some, None, IfSome, IsSome, refl, sym, ap, subst, ◌∙◌, arith}
+use Rattle.std.proofs.Common.{◌≡◌, inl, inr, ℕ, ◌≤◌, List, [], ◌++◌, Some, None, IsSome, refl, sym, ap, subst, ◌∙◌, arith}
 use Rattle.std.specs.List.{count_by}
 use Rattle.std.specs.Option.{is_some}
 use Rattle.std.proofs.lemmas.Option.{none-some}
@@ -19,7 +19,6 @@ use Rattle.hb_core.specs.Acting.{Abandons, DoesRow, MeetsBadPage}
 use Rattle.hb_core.specs.Asking.{HasWayFree, wanted_by}
 use Rattle.hb_core.specs.Forcing.{BeginsTurn, FailsToWrite, ForcesAll, HasDirtyPage, HasOldTurn, StaysSo, WritesOldest}
 use Rattle.hb_core.specs.KeptMachine.{MachineKeeps}
-use Rattle.hb_core.specs.KeptMerges.{NamesKnown, merging_at}
 use Rattle.hb_core.specs.Machines.{Machine, modes, with_disk}
 use Rattle.hb_core.proofs.Facts.StillThere.{other_modes}
 use Rattle.hb_core.proofs.Latches.SameLatches.{same_modes}
@@ -35,12 +34,12 @@ use Rattle.hb_core.specs.Using.{FramesFit, holders, page_wanted, pages_of, use_d
 use Rattle.hb_core.proofs.Latches.MergerBacked.{every_row_backed}
 use Rattle.hb_core.proofs.Machines.FlushedFrames.{cleaned_tied, tied_again}
 use Rattle.hb_core.proofs.Machines.HoldersMoved.{IsLatched, holders_moved, none_holds}
-use Rattle.hb_core.proofs.Machines.LatchesApart.{AreOnce, known_apart, latches_once, none_once, puts_apart}
+use Rattle.hb_core.proofs.Machines.LatchesApart.{AreOnce, known_apart, latches_differ, none_different, puts_apart}
 use Rattle.hb_core.proofs.Machines.PinCounts.{IsSingle, cleaned_pins, one_if}
 use Rattle.hb_core.proofs.Machines.PinsFollow.{AreThere, PinsMore, came_stays, deed_pins, found_counted, more_number, none_more, times}
 use Rattle.hb_core.proofs.Table.NextPlaces.{nothing_given_up, place_after}
 use Rattle.hb_core.proofs.Facts.StepKinds.{FlushesMore, each_kind_so, ready_kind}
-use Rattle.hb_core.proofs.Walks.WalksKept.{walks_stay_in_space}
+use Rattle.hb_core.proofs.Walks.WalksKept.{placed_in_space}
 use Rattle.hb_space.specs.Actors.{IsActor}
 use Rattle.hb_core.proofs.Facts.Ways.{own_next}
 
@@ -60,7 +59,7 @@ module _ (m : Machine) (actor : ℕ) (outcome : Outcome) (new : Machine) (may : 
 
   held_once : (q : ℕ) → times q (pages_of held) ≡ one_if (IsLatched (modes m) actor q)
   held_once q =
-      latches_once m.store (m.activity actor) (keeps.walk_in_space.merging actor) (known_apart m keeps.room_known actor) q
+      (latches_differ m.store (m.activity actor) (keeps.walk_in_space.merging actor) (known_apart m keeps.room_known actor)).once q
 
   -- ---- what leaves pins and latches
 
@@ -135,7 +134,7 @@ module _ (m : Machine) (actor : ℕ) (outcome : Outcome) (new : Machine) (may : 
 
     -- one after which the actor holds nothing
     leaves_all : (latches_held new.store deed.next ≡ []) → performs.pins ≡ pages_of held → PinsMore [] m.uses performs.came → FitsNow new
-    leaves_all none pins more = deed_so [] pins more (none_once after none) (λ page mode is. absurd (none-some mode (sym (ap (mode_among page) none) ∙ is)))
+    leaves_all none pins more = deed_so [] pins more (none_different after none).once (λ page mode is. absurd (none-some mode (sym (ap (mode_among page) none) ∙ is)))
 
   as_it_is : (deed : Deed) → ((st : StoreState) → latches_held st deed.next ≡ []) → PerformsAsItIs m actor deed outcome new → FitsNow new
   as_it_is deed none (performs, came, pins) = leaves_all m.store deed performs (none new.store) pins (subst (PinsMore [] m.uses) (sym came) (none_more m.uses single))
@@ -149,12 +148,11 @@ module _ (m : Machine) (actor : ℕ) (outcome : Outcome) (new : Machine) (may : 
   does_so free acts =
       let deed = acts.deed in
       let place = place_after m actor acts.fetched (wanted_by m actor) deed refl acts.row in
-      let walks = walks_stay_in_space m actor outcome new may keeps.latches_fit keeps.pages_of_file keeps.nobody_else keeps.walk_in_space step in
-      let merging : IfSome (merging_at deed.next) (NamesKnown new.store) = subst (λ (a : Activity). IfSome (merging_at a) (NamesKnown new.store)) (own_next actor deed.next m.activity new.activity acts.performs.activity) (walks.merging actor) in
+      let stands = placed_in_space m actor _ acts.fetched may keeps.latches_fit keeps.pages_of_file keeps.walk_in_space acts.brings deed new.store acts.performs.store place in
       let backed = every_row_backed m actor _ acts.fetched new.store may keeps.latches_fit keeps.pages_of_file free acts.brings (wanted_by m actor) deed refl acts.performs.store acts.row in
       deed_so acts.fetched deed acts.performs (page_wanted (wanted_by m actor)) acts.pins
       (subst (PinsMore (page_wanted (wanted_by m actor)) m.uses) (sym acts.came) (more_number _ m.store.meta (wanted_by m actor) m.uses single))
-      (latches_once new.store deed.next merging (puts_apart m actor _ acts.fetched may keeps.latches_fit keeps.pages_of_file acts.brings deed place))
+      (latches_differ new.store deed.next stands.merging (puts_apart m actor _ acts.fetched may keeps.latches_fit keeps.pages_of_file acts.brings deed place)).once
       (λ page mode is. let its = backed.latches page mode is in has_value (in_memory new.store page) _ its.there)
 
   worked : Works m actor outcome new → FitsNow new

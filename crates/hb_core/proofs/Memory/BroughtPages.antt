@@ -9,7 +9,7 @@ use Rattle.hb_activity.specs.declared.activities.Activity.{Activity}
 use Rattle.hb_core.specs.Fetching.{Brings, MustStay}
 use Rattle.hb_core.specs.Keeps.{LatchesFit}
 use Rattle.hb_core.specs.Machines.{Files, Machine, live_here, modes, with_disk}
-use Rattle.hb_core.proofs.Latches.SameLatches.{same_modes}
+use Rattle.hb_core.proofs.Latches.SameLatches.{HasHeld, live_held, same_modes, still_latched}
 use Rattle.hb_core.specs.Performing.{latches_held, mode_among}
 use Rattle.hb_space.specs.Actors.{IsActor}
 use Rattle.hb_ops.specs.Files.{if_live}
@@ -50,12 +50,18 @@ module _ (m : Machine) (may : ℕ → Type 0) (fetched : StoreState) (brings : B
   still_held actor id mode page holds was = brings.stays id (inl (actor, mode, holds)) (has_value (in_memory m.store id) page was) ∙ was
 
   -- and so each actor has latched what it had
+  pub held_come : (who : ℕ) → HasHeld m who fetched
+  held_come who id mode page holds there = still_held who id mode (Live page) holds there
+
+  pub latches_come : LatchesFit m → (who : ℕ) → latches_held fetched (m.activity who) ≡ latches_held m.store (m.activity who)
+  latches_come fit who = still_latched m fit who fetched (held_come who)
+
   pub same_held : LatchesFit m → modes (with_disk fetched m.files m.clock m) ≡ modes m
-  same_held fit = same_modes m fit (with_disk fetched m.files m.clock m) (λ who. refl) (λ who id mode page holds there. still_held who id mode (Live page) holds there)
+  same_held fit = same_modes m fit (with_disk fetched m.files m.clock m) (λ who. refl) held_come
 
   -- so a page in use stays that an actor has latched where it stands
   pub own_there : (actor id : ℕ) (mode : Mode) (page : LivePage) → LatchesFit m → IsActor actor → mode_among id (latches_held m.store (m.activity actor)) ≡ Some mode → live_here m.store id ≡ Some page → live_here fetched id ≡ Some page
-  own_there actor id mode page fit may among live = ap if_live (still_held actor id mode (Live page) among (live_so (in_memory m.store id) page live))
+  own_there actor id mode page fit may among live = live_held m actor fetched (held_come actor) id mode page among live
 
   -- a page that must stay does, and any other one stays or is gone, or has come again where the disk doesn't tell
   pub stays_or_left : (id : ℕ) (page : Page) → in_memory m.store id ≡ Some page → (in_memory fetched id ≡ Some page) ⊎ ((¬ (MustStay m id)) × ((in_memory fetched id ≡ None) ⊎ (m.files ≡ None)))

@@ -1,6 +1,6 @@
 -- After a step a page that is to be split lacks room for its insert, and of the two halves of a split one has room.
 use Rattle.std.proofs.Common.{◌≡◌, ◌≢◌, ◌⊎◌, inl, inr, ℕ, ◌==◌, ◌<◌, ◌≤◌, List, [], ◌∷◌, length, Option, Some, None, refl, sym, ap, ◌∙◌, subst}
-use Rattle.hb_core.proofs.Latches.SameLatches.{HasHeld}
+use Rattle.hb_core.proofs.Latches.SameLatches.{HasHeld, live_held}
 use Rattle.hb_core.proofs.Latches.HeldKept.{each_held}
 use Rattle.hb_core.proofs.Facts.StillThere.{other_held}
 use Rattle.std.proofs.lemmas.Option.{none-some}
@@ -32,18 +32,16 @@ use Rattle.hb_core.specs.Forcing.{ForcesAll, StaysSo}
 use Rattle.hb_core.specs.KeepingLaws.{RoomStaysKnown}
 use Rattle.hb_core.specs.KeptLines.{MetaWithinLimits}
 use Rattle.hb_core.specs.Keeps.{HasRoomFor, HoldsPagesOfFile, KnowsRoom, LacksRecordAt, LacksRoomFor, LatchesFit, OneHasRoom}
-use Rattle.hb_core.specs.Machines.{Machine, live_here, modes}
+use Rattle.hb_core.specs.Machines.{Machine, live_here}
 use Rattle.hb_core.specs.Performing.{MayDo, Performs, latches_held, mode_among}
 use Rattle.hb_core.specs.Steps.{StepsTo, Works}
 use Rattle.hb_frag.specs.Leaves.{weight_of}
 use Rattle.hb_space.specs.Actors.{IsActor}
-use Rattle.hb_ops.specs.Files.{if_live}
 use Rattle.hb_ops.specs.Operations.{change_of}
 use Rattle.hb_ops.specs.Recording.{put_page}
 use Rattle.hb_store.specs.Calls.{read_here}
-use Rattle.hb_store.specs.States.{StoreState, in_memory}
+use Rattle.hb_store.specs.States.{StoreState}
 use Rattle.hb_core.proofs.Table.MergerMoves.{no_line}
-use Rattle.hb_ops.proofs.Facts.PageNumberLaws.{live_so}
 use Rattle.hb_lemmas.proofs.Booleans.{at_itself}
 use Rattle.hb_lemmas.proofs.Lists.{not_empty}
 use Rattle.hb_core.proofs.Memory.OwnedOps.{second_mode}
@@ -261,14 +259,11 @@ module _ (laws : RoomLaws) (least : DCAP_MIN ≡ 6) (m : Machine) (actor : ℕ) 
 -- where the pages that an actor holds stay, and the capacity
 pub knows_held : (m new : Machine) → SameCapacity m new → (actor : ℕ) → HasHeld m actor new.store → KnowsOf m (m.activity actor) → KnowsOf new (m.activity actor)
 knows_held m new capacity actor has knows = record {
-  splits = λ held line is. splits_again m new capacity line held (λ page live. still held page (split_latched m.store (m.activity actor) line held is) live) (knows.splits held line is);
+  splits = λ held line is. splits_again m new capacity line held (λ page live. live_held m actor new.store has held Exclusive page (split_latched m.store (m.activity actor) line held is) live) (knows.splits held line is);
   puts = λ source fresh line is.
       let both = put_latched m.store (m.activity actor) line source fresh is in
-      puts_again m new capacity line source fresh (λ page live. still source page both.0 live) (λ page live. still fresh page both.1 live) (knows.puts source fresh line is);
+      puts_again m new capacity line source fresh (λ page live. live_held m actor new.store has source Exclusive page both.0 live) (λ page live. live_held m actor new.store has fresh Exclusive page both.1 live) (knows.puts source fresh line is);
 }
-  where
-    still : (id : ℕ) (page : LivePage) → modes m actor id ≡ Some Exclusive → live_here m.store id ≡ Some page → live_here new.store id ≡ Some page
-    still id page among live = ap if_live (has id Exclusive page among (live_so (in_memory m.store id) page live))
 
 pub room_stays_known : RoomLaws → DCAP_MIN ≡ 6 → RoomStaysKnown
 room_stays_known laws least m actor outcome new latches fit inside within nobody knows step = all_know new (each_held m actor outcome new latches fit inside step (λ other activity. KnowsOf new activity)

@@ -1,14 +1,12 @@
 -- What the frames of a machine tell of the pages that a step needs: which stay, how few pins they have, and what a page that comes makes
 -- of that.
 use Rattle.std.proofs.Common.{◌≡◌, inl, inr, ℕ, ◌+◌, ◌<◌, ◌≤◌, true, false, List, [], cond, Option, Some, None, IsSome, IsTrue, refl, sym, ap, subst, ◌∙◌, arith}
-use Rattle.hb_core.specs.Performing.{latches_held, mode_among}
-use Rattle.hb_activity.specs.declared.activities.Activity.{Activity}
 use Rattle.std.specs.FinSet as set
 use Rattle.std.specs.Ordering.{nat_cmp}
 use Rattle.std.specs.Option.{IsSomeAnd, is_some, option_map_or}
 use Rattle.std.proofs.lemmas.Bool.{false≢true}
 use Rattle.std.proofs.lemmas.List.Sums.{count_by-le-length}
-use Rattle.hb_lemmas.proofs.Options.{has_value, not_none}
+use Rattle.hb_lemmas.proofs.Options.{has_value}
 use Rattle.hb_activity.specs.declared.wanting.Wanted.{Wanted}
 use Rattle.hb_latch.specs.declared.modes.Mode.{Mode}
 use Rattle.hb_latch.specs.Tables.{HeldModes}
@@ -22,7 +20,7 @@ use Rattle.hb_store.specs.States.{StoreState, is_dirty}
 use Rattle.hb_core.proofs.Machines.HoldersMoved.{holders_moved}
 use Rattle.hb_core.proofs.Machines.PinCounts.{IsSingle, brought_pins, one_if}
 use Rattle.hb_core.proofs.Machines.PinsFollow.{PinsMore, times}
-use Rattle.hb_core.proofs.Facts.StillThere.{may_or_not}
+use Rattle.hb_core.proofs.Facts.StillThere.{holder_may}
 use Rattle.hb_core.proofs.Running.Pins.{few_pins, times_first}
 use Rattle.hb_core.specs.Fetching.{MustStay}
 use Rattle.hb_core.specs.KeptMachine.{MachineKeeps}
@@ -57,13 +55,10 @@ wanted_here wants old uses pinned wanted is =
 
 -- who has latched a page counts
 pub latched_counts : (m : Machine) (keeps : MachineKeeps m) (actor id : ℕ) (mode : Mode) → modes m actor id ≡ Some mode → 0 < holders (modes m) id
-latched_counts m keeps actor id mode holds = elim (may_or_not actor) [
-  | inl may ↦
-      let own : one_if (is_some (modes m actor id)) ≡ 1 = ap (λ (o : Option Mode). one_if (is_some o)) holds in
-      let least = (holders_moved actor (modes m) (modes m) may (λ other page apart. refl) id).1 in
-      omega (arith, own, least)
-  | inr none ↦ absurd (not_none (modes m actor id) mode holds (ap (λ (a : Activity). mode_among id (latches_held m.store a)) (keeps.nobody_else actor none)))
-]
+latched_counts m keeps actor id mode holds =
+    let own : one_if (is_some (modes m actor id)) ≡ 1 = ap (λ (o : Option Mode). one_if (is_some o)) holds in
+    let least = (holders_moved actor (modes m) (modes m) (holder_may m keeps.nobody_else actor id mode holds) (λ other page apart. refl) id).1 in
+    omega (arith, own, least)
 
 pub must_here : (m : Machine) (st : StoreState) (uses : List Use) → MachineKeeps m → st.dirty ≡ m.store.dirty → IsTied st uses → ((q : ℕ) → pins_of m.uses q ≤ pins_of uses q) → (id : ℕ) → MustStay m id → StaysHere uses id
 must_here m st uses keeps same tied more id (inl (actor, mode, holds)) =

@@ -7,7 +7,7 @@ use Rattle.hb_activity.specs.declared.wanting.Wanted.{Wanted}
 use Rattle.hb_activity.specs.declared.activities.Activity.{Activity}
 use Rattle.hb_activity.specs.declared.activities.Activity.TheVariants as at
 use Rattle.hb_core.proofs.Walks.NoCircle.{AwaitsLatch, held_there, in_sequence}
-use Rattle.hb_core.proofs.Facts.StillThere.{may_or_not}
+use Rattle.hb_core.proofs.Facts.StillThere.{holder_may}
 use Rattle.hb_core.specs.Asking.{wanted_by}
 use Rattle.hb_core.specs.Keeps.{HasNobodyElse, HasSoundFile, LatchesFit, WalksInSpace}
 use Rattle.hb_core.specs.Machines.{Files, Machine, current_file, modes}
@@ -31,10 +31,7 @@ module _ (m : Machine) (files : Files) (fit : LatchesFit m) (has : HasSoundFile 
     (kept : (other : ℕ) → HasWorkLeft m other → IsKeptWaiting m other) where
   -- who is in the way is at work
   holder_works : (actor page : ℕ) (mode : Mode) → modes m actor page ≡ Some mode → HasWorkLeft m actor
-  holder_works actor page mode holds = elim (may_or_not actor) [
-    | inl may ↦ (may, λ rests. rests_free m.store (m.activity actor) page mode rests holds)
-    | inr none ↦ absurd (rests_free m.store (m.activity actor) page mode (subst IsAtRest (sym (nobody actor none)) tt) holds)
-  ]
+  holder_works actor page mode holds = (holder_may m nobody actor page mode holds, λ rests. rests_free m.store (m.activity actor) page mode rests holds)
 
   record IsKeptBy (actor : ℕ) : Type 0 where
     pub other : ℕ

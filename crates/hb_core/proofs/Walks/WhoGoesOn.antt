@@ -29,8 +29,9 @@ use Rattle.hb_set.specs.Machine.{RecordSet}
 use Rattle.hb_core.specs.declared.outcomes.Outcome.{Outcome}
 use Rattle.hb_core.specs.declared.outcomes.Outcome.TheVariants as outcomes
 use Rattle.hb_core.proofs.Walks.LockHolders.{holder_works}
+use Rattle.hb_core.proofs.Walks.NoCircle.{held_there}
 use Rattle.hb_core.proofs.Walks.SomebodyFree.{somebody_goes_on}
-use Rattle.hb_core.proofs.Facts.StillThere.{may_or_not}
+use Rattle.hb_core.proofs.Facts.StillThere.{holder_may, may_or_not}
 use Rattle.hb_core.specs.Asking.{HasWayFree, wanted_by}
 use Rattle.hb_core.specs.Forcing.{FlushesOnce, ForcesAll, StaysSo}
 use Rattle.hb_core.specs.Keeps.{HasNobodyElse}
@@ -38,7 +39,7 @@ use Rattle.hb_core.specs.KeptFits.{LineFits, class_for}
 use Rattle.hb_core.specs.Locking.{HasBoxFree}
 use Rattle.hb_core.specs.KeptMachine.{CoreKeeps}
 use Rattle.hb_core.specs.Machines.{Files, Machine, modes}
-use Rattle.hb_core.specs.Performing.{Performs, outcome_of, latches_held, mode_among}
+use Rattle.hb_core.specs.Performing.{Performs, outcome_of}
 use Rattle.hb_core.specs.ProgressLaws.{GoesForward, GoesOnNow, HasSomethingLeft, SomebodyGoesOnNow}
 use Rattle.hb_core.specs.SteppingLaws.{IsAtRest}
 use Rattle.hb_core.specs.Steps.{AwaitsPlace, BeginsLine, StepsAs, StepsTo, TakesJobToMerge, TakesPosting, Works}
@@ -94,10 +95,10 @@ module _ (modes : HeldModes) (actor page : ℕ) (mode : Mode) where
 module _ (m : Machine) (none_else : HasNobodyElse m) where
   -- only the 19 actors hold latches
   nobody : (actor page : ℕ) (mode : Mode) → ((earlier : ℕ) → earlier < 20 → ¬ (KeepsFrom (modes m) actor page mode earlier)) → (other : ℕ) → ¬ (KeepsFrom (modes m) actor page mode other)
-  nobody actor page mode none other keeps = elim (may_or_not other) [
-    | inl may ↦ let last = may.to_19 in none other (omega (arith, last)) keeps
-    | inr outside ↦ subst (λ (o : Option Mode). IsSomeAnd o (λ held. ¬ (IsTrue (goes_beside mode held)))) (ap (λ (a : Activity). mode_among page (latches_held m.store a)) (none_else other outside)) keeps.conflict
-  ]
+  nobody actor page mode none other keeps =
+      let held = held_there (modes m other page) mode keeps.conflict in
+      let last = (holder_may m none_else other page held.0 held.1).to_19 in
+      none other (omega (arith, last)) keeps
 
   free_or_kept : (actor : ℕ) → HasWayFree m actor ⊎ IsKeptWaiting m actor
   free_or_kept actor = by (wanted_by m actor)
