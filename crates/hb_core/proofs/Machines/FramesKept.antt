@@ -1,5 +1,6 @@
 -- Every step keeps that the frames are those of the pages in memory, and that a page is pinned as many times as actors have latched it.
 use Rattle.std.proofs.Common.{◌≡◌, inl, inr, ℕ, ◌≤◌, List, [], ◌++◌, Some, None, IsSome, refl, sym, ap, subst, ◌∙◌, arith}
+use Rattle.hb_core.proofs.Memory.BroughtPages.{same_held}
 use Rattle.std.specs.List.{count_by}
 use Rattle.std.specs.Option.{is_some}
 use Rattle.std.proofs.lemmas.Option.{none-some}
@@ -19,12 +20,9 @@ use Rattle.hb_core.specs.Acting.{Abandons, DoesRow, MeetsBadPage}
 use Rattle.hb_core.specs.Asking.{HasWayFree, wanted_by}
 use Rattle.hb_core.specs.Forcing.{BeginsTurn, FailsToWrite, ForcesAll, HasDirtyPage, HasOldTurn, StaysSo, WritesOldest}
 use Rattle.hb_core.specs.KeptMachine.{MachineKeeps}
-use Rattle.hb_core.specs.Machines.{Machine, modes, with_disk}
+use Rattle.hb_core.specs.Machines.{Machine, modes}
 use Rattle.hb_core.proofs.Facts.StillThere.{other_modes}
-use Rattle.hb_core.proofs.Latches.SameLatches.{same_modes}
-use Rattle.hb_core.proofs.Memory.BroughtPages.{still_held}
 use Rattle.hb_latch.specs.Tables.{HeldModes}
-use Rattle.hb_frag.specs.declared.pages.Page.TheVariants.{Live}
 use Rattle.hb_core.proofs.Table.GivenUp.{idle_latches}
 use Rattle.hb_core.specs.KeptFits.{class_for}
 use Rattle.hb_core.specs.Performing.{Performs, PerformsAsItIs, latches_held, mode_among}
@@ -58,8 +56,7 @@ module _ (m : Machine) (actor : ℕ) (outcome : Outcome) (new : Machine) (may : 
   held = latches_held m.store (m.activity actor)
 
   held_once : (q : ℕ) → times q (pages_of held) ≡ one_if (IsLatched (modes m) actor q)
-  held_once q =
-      (latches_differ m.store (m.activity actor) (keeps.walk_in_space.merging actor) (known_apart m keeps.room_known actor)).once q
+  held_once q = (latches_differ m.store (m.activity actor) (keeps.walk_in_space.merging actor) (known_apart m keeps.room_known actor)).once q
 
   -- ---- what leaves pins and latches
 
@@ -97,7 +94,7 @@ module _ (m : Machine) (actor : ℕ) (outcome : Outcome) (new : Machine) (may : 
   meets_so meets = as_before _ meets.stops (record {
     tied = meets.tied;
     pins = λ q. (came_stays (wanted_by m actor) m.store.meta m.uses meets.came single meets.came_is).pins q ∙ fit.pins q
-        ∙ ap (λ (held : HeldModes). holders held q) (sym (same_modes m keeps.latches_fit (with_disk meets.fetched m.files m.clock m) (λ who. refl) (λ who id mode page holds there. still_held m _ meets.fetched meets.brings who id mode (Live page) holds there)));
+        ∙ ap (λ (held : HeldModes). holders held q) (sym (same_held m _ meets.fetched meets.brings keeps.latches_fit));
   })
 
   -- ---- a deed

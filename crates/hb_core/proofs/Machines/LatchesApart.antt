@@ -35,7 +35,7 @@ use Rattle.hb_core.proofs.Table.NextPlaces.{HasPlace, PartsFull, now}
 use Rattle.hb_space.specs.Actors.{IsActor}
 use Rattle.hb_store.specs.States.{StoreState, in_memory}
 
--- so once each, and as one pair after the other
+-- a page is among theirs once where it is latched, and else not; and so they are on different pages
 abbrev pub AreOnce : List Latch → Type 0
 AreOnce latches = (q : ℕ) → times q (pages_of latches) ≡ one_if (is_some (mode_among q latches))
 

@@ -2,7 +2,6 @@
 use Rattle.std.proofs.Common.{◌≡◌, ◌≢◌, ◌⊎◌, inl, inr, ℕ, ◌==◌, ◌<◌, ◌≤◌, List, [], ◌∷◌, length, Option, Some, None, refl, sym, ap, ◌∙◌, subst}
 use Rattle.hb_core.proofs.Latches.SameLatches.{HasHeld, live_held}
 use Rattle.hb_core.proofs.Latches.HeldKept.{each_held}
-use Rattle.hb_core.proofs.Facts.StillThere.{other_held}
 use Rattle.std.proofs.lemmas.Option.{none-some}
 use Rattle.hb_space.specs.declared.records.Record.{Record}
 use Rattle.hb_layout.specs.declared.limits.TheConstants.{DCAP_MIN}
