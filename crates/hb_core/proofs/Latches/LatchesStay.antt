@@ -61,7 +61,7 @@ module _ (mutual_modes : (mode other : Mode) → goes_beside mode other ≡ goes
   stay_fit = record {
     compatible = λ a b page apart. if_value (modes new a page) _ (λ mode first. if_value (modes new b page) _ (λ held second.
         go_beside a b page mode held apart ((now_backed a).latches page mode first).0 ((now_backed b).latches page held second).0));
-    used = λ a page mode holds. ((now_backed a).latches page mode holds).1;
+    used = λ a page mode holds. let one = (now_backed a).latches page mode holds in (one.1, one.2);
     walking = λ a held walks. (now_backed a).walk held walks;
   }
 

@@ -22,7 +22,7 @@ use Rattle.hb_activity.specs.Passing.{LeadsBelow}
 use Rattle.hb_activity.specs.Walks.{walk_held, walk_point}
 use Rattle.hb_activity.specs.Wanting.{CanLook, HasLeafAt, LooksIntoPage, looked_at, wanted_of}
 use Rattle.hb_store.specs.States.{IsGoodPage, StoreState, in_memory}
-use Rattle.hb_core.proofs.Latches.LatchesStay.{walk_latched}
+use Rattle.hb_core.proofs.Latches.SameLatches.{walk_latched}
 use Rattle.hb_core.proofs.Walks.MergesKept.{named_again, place_latched, known_at, place_stays}
 use Rattle.hb_core.proofs.Walks.WalksKept.{IsAtParent, parent_latched}
 use Rattle.hb_core.specs.Asking.{looked_live, looked_page, wanted_by}

@@ -1,6 +1,6 @@
 -- What a decider said may be performed: its operation may be committed, its actor may stand as it says, a line that joins the order has room,
 -- and the pages that came are those that the row needs.
-use Rattle.std.proofs.Common.{◌≡◌, ◌⊎◌, inl, inr, ℕ, ◌<◌, List, length, Option, IsSome, IsTrue, IfSome, refl, sym, ap, subst, arith, ◌++◌, None, Some}
+use Rattle.std.proofs.Common.{◌≡◌, ◌⊎◌, inl, inr, ℕ, ◌<◌, List, length, Option, IsSome, IsTrue, IfSome, refl, sym, ap, ◌∙◌, subst, arith, ◌++◌, None, Some}
 use Rattle.hb_latch.specs.Tables.{mode_at, HeldModes}
 use Rattle.hb_core.proofs.Memory.BroughtPages.{same_held}
 use Rattle.std.proofs.lemmas.Bool.{false≢true}

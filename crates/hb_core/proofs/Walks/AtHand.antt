@@ -25,7 +25,7 @@ use Rattle.hb_activity.specs.Wanting.{child_of, in_mode, named_child, named_page
 use Rattle.hb_consol.specs.ConsolidatorRows.{names_child}
 use Rattle.hb_core.proofs.Files.AskedPages.{first_among, first_box_among, leaf_of_place}
 use Rattle.hb_core.proofs.Memory.BroughtPages.{own_there}
-use Rattle.hb_core.proofs.Latches.LatchesStay.{walk_latched}
+use Rattle.hb_core.proofs.Latches.SameLatches.{walk_latched}
 use Rattle.hb_core.proofs.Table.MergerMoves.{of_page}
 use Rattle.hb_core.proofs.Walks.MergesKept.{above_records, place_latched, known_at}
 use Rattle.hb_ops.proofs.Facts.Volumes.{sibling_fewer}

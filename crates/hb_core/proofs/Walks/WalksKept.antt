@@ -30,7 +30,7 @@ use Rattle.hb_core.specs.KeepingLaws.{WalksStayInSpace}
 use Rattle.hb_core.specs.Keeps.{HoldsPagesOfFile, LatchesFit, WalksInSpace}
 use Rattle.hb_core.specs.KeptMerges.{AtParent, NamesKnown, merging_at}
 use Rattle.hb_core.specs.Machines.{Machine, live_here}
-use Rattle.hb_core.specs.Performing.{latches_held, mode_among}
+use Rattle.hb_core.specs.Performing.{MayDo, latches_held, mode_among}
 use Rattle.hb_space.specs.Actors.{IsActor}
 use Rattle.hb_ops.proofs.Facts.Tips.{first_held}
 use Rattle.hb_ops.specs.Files.{if_live}
