@@ -8,7 +8,7 @@ use Rattle.hb_activity.specs.declared.activities.Activity.{Activity}
 use Rattle.hb_activity.specs.declared.activities.Activity.TheVariants.{PosterChild, PosterPromote, PosterAgain, ConsolidatorScan, ConsolidatorTry, ConsolidatorPromote, ConsolidatorKeep, ConsolidatorDecide}
 use Rattle.hb_activity.specs.Walks.{walk_point, walk_held}
 use Rattle.hb_activity.specs.Wanting.{wanted_of}
-use Rattle.hb_core.specs.Machines.{Machine, live_here}
+use Rattle.hb_core.specs.Machines.{Machine, live_here, modes}
 pub use Rattle.hb_core.specs.declared.asking.AskedBox.{AskedBox}
 use Rattle.hb_core.specs.declared.asking.BoxTest.TheVariants.{Exactly, Around}
 pub use Rattle.hb_view.specs.Naming.{first_child_box}
@@ -42,11 +42,11 @@ wanted_by m actor = wanted_of (m.activity actor) m.store.meta (looked_live m.sto
 
 -- another actor's latch is in the way of it, and this is the least such actor
 abbrev pub IsInTheWay : Machine → ℕ → ℕ → Type 0
-IsInTheWay m actor by = IsSomeAnd (wanted_by m actor) (λ wanted. IsLeastInTheWay m.latches actor wanted.page wanted.mode by)
+IsInTheWay m actor by = IsSomeAnd (wanted_by m actor) (λ wanted. IsLeastInTheWay (modes m) actor wanted.page wanted.mode by)
 
 -- none is
 abbrev pub HasWayFree : Machine → ℕ → Type 0
-HasWayFree m actor = IfSome (wanted_by m actor) (λ wanted. IsGrantable m.latches actor wanted.page wanted.mode)
+HasWayFree m actor = IfSome (wanted_by m actor) (λ wanted. IsGrantable (modes m) actor wanted.page wanted.mode)
 
 -- a page of this very box is asked for, or one whose box has it within
 abbrev pub this_box : Area → AskedBox

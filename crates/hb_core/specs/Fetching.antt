@@ -9,8 +9,7 @@ use Rattle.hb_store.specs.declared.stops.Why.{Why}
 use Rattle.hb_store.specs.declared.stops.Why.TheVariants.{Rule, Level, Extent}
 use Rattle.hb_core.specs.AskedBoxes.{IsNotAsked}
 use Rattle.hb_core.specs.Asking.{AskedBox}
-use Rattle.hb_core.specs.Machines.{Files, Machine, current_file}
-use Rattle.hb_latch.specs.Tables.{mode_at}
+use Rattle.hb_core.specs.Machines.{Files, Machine, current_file, modes}
 use Rattle.hb_ops.specs.Files.{page_of}
 use Rattle.hb_store.specs.Calls.{KeepsAllButPages}
 use Rattle.hb_store.specs.States.{IsGoodPage, StoreState, in_memory, is_dirty}
@@ -18,7 +17,7 @@ use Rattle.hb_store.specs.Fetching.{IsNoPage}
 
 -- The pages that stay in memory whatever comes: those that somebody holds, and those that are to be written to their places still.
 abbrev pub MustStay : Machine → ℕ → Type 0
-MustStay m id = ((actor : ℕ) × (mode : Mode) × (mode_at m.latches actor id ≡ Some mode)) ⊎ IsTrue (is_dirty m.store id)
+MustStay m id = ((actor : ℕ) × (mode : Mode) × (modes m actor id ≡ Some mode)) ⊎ IsTrue (is_dirty m.store id)
 
 -- Pages came into memory, of these numbers at most, and pages left it that need not stay: else nothing changed. What came is of
 -- the file and keeps the rules that speak of a page alone; where the disk tells, it is what the file has there. Where it doesn't, a

@@ -5,7 +5,7 @@ use Rattle.hb_activity.specs.declared.activities.Activity.TheVariants as at
 use Rattle.hb_core.specs.declared.outcomes.Outcome.{Outcome}
 use Rattle.hb_core.specs.declared.outcomes.Outcome.TheVariants as outcomes
 use Rattle.hb_core.specs.DamageLaws.{IsUndamaged}
-use Rattle.hb_core.specs.Keeps.{HasNoOtherLatches, HasNobodyElse, HasSoundFile, HoldsPagesOfFile, KnowsRoom, LatchesFit, WalksInSpace}
+use Rattle.hb_core.specs.Keeps.{HasNobodyElse, HasSoundFile, HoldsPagesOfFile, KnowsRoom, LatchesFit, WalksInSpace}
 use Rattle.hb_core.specs.KeptLines.{MetaWithinLimits}
 use Rattle.hb_core.specs.KeptOrder.{HasLegalOrder, HasPendingPrefix, StandsInOrder, StandsOutside}
 use Rattle.hb_core.specs.KeptMachine.{CoreKeeps}
@@ -21,10 +21,6 @@ use Rattle.hb_set.specs.Order.{IsLegalOrder, result_of}
 -- Under no number but those of the actors anybody comes to stand.
 abbrev pub NobodyElseComes : Type 0
 NobodyElseComes = (m : Machine) (actor : ℕ) (outcome : Outcome) (new : Machine) → IsActor actor → HasNobodyElse m → StepsTo m actor outcome new → HasNobodyElse new
-
--- and under no other one a latch is taken.
-abbrev pub NobodyElseLatches : Type 0
-NobodyElseLatches = (m : Machine) (actor : ℕ) (outcome : Outcome) (new : Machine) → IsActor actor → HasNoOtherLatches m → StepsTo m actor outcome new → HasNoOtherLatches new
 
 -- After a step the page that a walk holds has the walk's point in its box, and the parent that a poster holds has a child
 -- leaf at the job's point. So it is over every disk.

@@ -11,10 +11,9 @@ use Rattle.hb_activity.specs.Passing.{LeadsBelow}
 use Rattle.hb_activity.specs.Walks.{walk_held, walk_point}
 use Rattle.hb_activity.specs.Wanting.{onward_at}
 use Rattle.hb_core.specs.KeptMerges.{NamesKnown, merging_at}
-use Rattle.hb_core.specs.Machines.{Files, Machine, current_file, live_here}
-use Rattle.hb_core.specs.Performing.{latches_held, mode_among}
+use Rattle.hb_core.specs.Machines.{Files, Machine, current_file, live_here, modes}
 use Rattle.hb_frag.specs.Leaves.{DirectlyHolds, weight_of}
-use Rattle.hb_latch.specs.Tables.{AreCompatible, mode_at}
+use Rattle.hb_latch.specs.Tables.{AreCompatible}
 use Rattle.hb_space.specs.Actors.{IsActor}
 use Rattle.hb_layout.specs.Limits.{IsLayout}
 use Rattle.hb_ops.specs.Files.{page_of}
@@ -37,13 +36,11 @@ pub record HasSoundFile (m : Machine) (files : Files) : Type 0 where
 abbrev pub HoldsPagesOfFile : Machine → Type 0
 HoldsPagesOfFile m = (id : ℕ) (page : Page) → in_memory m.store id ≡ Some page → (1 ≤ id) × (id ≤ m.store.meta.high) × IsGoodPage m.store.meta page
 
--- Each actor holds the latches of its activity and no other, on pages in use; and latches of different actors on one page
--- go beside each other.
+-- Latches of different actors on one page go beside each other, and each is on a page in use, as is the page that a walk holds.
 pub record LatchesFit (m : Machine) : Type 0 where
-  pub compatible : AreCompatible m.latches
-  pub exact : (actor page : ℕ) → IsActor actor → mode_at m.latches actor page ≡ mode_among page (latches_held m.store (m.activity actor))
-  pub used : (actor page : ℕ) (mode : Mode) → mode_at m.latches actor page ≡ Some mode → (live : LivePage) × (in_memory m.store page ≡ Some (Live live))
-  pub walking : (actor held : ℕ) → IsActor actor → walk_held (m.activity actor) ≡ Some held → (live : LivePage) × (in_memory m.store held ≡ Some (Live live))
+  pub compatible : AreCompatible (modes m)
+  pub used : (actor page : ℕ) (mode : Mode) → modes m actor page ≡ Some mode → (live : LivePage) × (in_memory m.store page ≡ Some (Live live))
+  pub walking : (actor held : ℕ) → walk_held (m.activity actor) ≡ Some held → (live : LivePage) × (in_memory m.store held ≡ Some (Live live))
 
 -- The page that a walk holds has the walk's point in its box, and its leaf there names the page to which the walk goes on. The
 -- parent that a poster holds is of the job's level, and
@@ -93,7 +90,3 @@ pub record KnowsRoom (m : Machine) : Type 0 where
 -- Under every number that is no actor's an idle session stands.
 abbrev pub HasNobodyElse : Machine → Type 0
 HasNobodyElse m = (actor : ℕ) → ¬ (IsActor actor) → m.activity actor ≡ at.SessionIdle
-
--- And under no other number a latch is held.
-abbrev pub HasNoOtherLatches : Machine → Type 0
-HasNoOtherLatches m = (actor page : ℕ) → ¬ (IsActor actor) → mode_at m.latches actor page ≡ None

@@ -2,14 +2,14 @@
 use Rattle.std.specs.Prelude.{◌≡◌, Some}
 use Rattle.hb_set.specs.Machine.{RecordSet}
 use Rattle.hb_core.specs.KeptOrder.{HasLegalOrder, HasPendingPrefix}
-use Rattle.hb_core.specs.Keeps.{HasNoOtherLatches, HasNobodyElse, HasSoundFile, HoldsPagesOfFile, KnowsRoom, LatchesFit, WalksInSpace}
+use Rattle.hb_core.specs.Keeps.{HasNobodyElse, HasSoundFile, HoldsPagesOfFile, KnowsRoom, LatchesFit, WalksInSpace}
 use Rattle.hb_core.specs.KeptFits.{AttributesFit, HaveClasses, RunsWithStore, WorkersStand}
 use Rattle.hb_core.specs.KeptLines.{LinesFit, LogInPlace, MetaWithinLimits}
 use Rattle.hb_core.specs.KeptPlaces.{AnswersAreSingle, AwaitsNoneOutside, MarksRise, OrderIsShort, RepliesStand}
 use Rattle.hb_core.specs.KeptSearches.{SearchesAreExact, SearchesGather}
 use Rattle.hb_core.specs.KeptSequence.{LinesInSequence}
 use Rattle.hb_core.specs.Locking.{BoxLocksFit}
-use Rattle.hb_core.specs.Machines.{Files, Machine}
+use Rattle.hb_core.specs.Machines.{Files, Machine, modes}
 use Rattle.hb_core.specs.Using.{FramesFit}
 
 pub record MachineKeeps (m : Machine) : Type 0 where
@@ -28,12 +28,11 @@ pub record MachineKeeps (m : Machine) : Type 0 where
   pub answers_single : AnswersAreSingle m
   -- pages in memory are of the file; their frames, and the pins
   pub pages_of_file : HoldsPagesOfFile m
-  pub frames_fit : FramesFit m.store m.uses m.latches
+  pub frames_fit : FramesFit m.store m.uses (modes m)
   -- who stands where, and holds what
   pub classes : HaveClasses m
   pub nobody_else : HasNobodyElse m
   pub latches_fit : LatchesFit m
-  pub no_other_latches : HasNoOtherLatches m
   pub box_locks_fit : BoxLocksFit m
   pub searches_gather : SearchesGather m
   pub walk_in_space : WalksInSpace m

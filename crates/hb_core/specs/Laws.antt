@@ -11,11 +11,10 @@ use Rattle.hb_activity.specs.Walks.{walk_held, walk_point}
 use Rattle.hb_core.specs.Asking.{HasWayFree, wanted_by}
 use Rattle.hb_core.specs.Fetching.{MustStay}
 use Rattle.hb_core.specs.Keeps.{HasSoundFile, HoldsPagesOfFile, LatchesFit}
-use Rattle.hb_core.specs.Machines.{Files, Machine, current_file, live_here}
+use Rattle.hb_core.specs.Machines.{Files, Machine, current_file, live_here, modes}
 use Rattle.hb_core.specs.Performing.{given_by}
 use Rattle.hb_core.specs.Forcing.{HasOldTurn}
 use Rattle.hb_core.specs.Steps.{StepsTo}
-use Rattle.hb_latch.specs.Tables.{mode_at}
 use Rattle.hb_space.specs.Actors.{IsActor}
 use Rattle.hb_ops.specs.Files.{FileState}
 use Rattle.hb_set.specs.Order.{Entry}
@@ -32,7 +31,7 @@ pub record TakesAlone (m : Machine) (actor id : ℕ) : Type 0 where
   pub free : HasWayFree m actor
 
 abbrev pub HasAlone : Machine → ℕ → ℕ → Type 0
-HasAlone m actor id = (mode_at m.latches actor id ≡ Some Exclusive) ⊎ TakesAlone m actor id
+HasAlone m actor id = (modes m actor id ≡ Some Exclusive) ⊎ TakesAlone m actor id
 
 -- the page is in memory and in use
 abbrev pub IsInUse : Machine → ℕ → LivePage → Type 0
@@ -51,16 +50,16 @@ OwnPagesChange = (m : Machine) (actor : ℕ) (outcome : Outcome) (new : Machine)
 -- So what another actor holds, in whatever mode, stays as it was.
 abbrev pub HeldPagesStay : Type 0
 HeldPagesStay = (m : Machine) (actor : ℕ) (outcome : Outcome) (new : Machine) → IsActor actor → LatchesFit m → HoldsPagesOfFile m → StepsTo m actor outcome new →
-    (other id : ℕ) (mode : Mode) (page : LivePage) → other ≢ actor → mode_at m.latches other id ≡ Some mode → IsInUse m id page → IsInUse new id page
+    (other id : ℕ) (mode : Mode) (page : LivePage) → other ≢ actor → modes m other id ≡ Some mode → IsInUse m id page → IsInUse new id page
 
--- After a step each actor holds the latches of its activity, on pages in use, and latches on one page go beside each other.
+-- After a step all latches are on pages in use, and those on one page go beside each other.
 abbrev pub LatchesStayFit : Type 0
 LatchesStayFit = (m : Machine) (actor : ℕ) (outcome : Outcome) (new : Machine) → IsActor actor → LatchesFit m → HoldsPagesOfFile m → StepsTo m actor outcome new → LatchesFit new
 
--- No other actor stands elsewhere after a step, or has other latches.
+-- No other actor stands elsewhere after a step; and so, where latches fit, none has other latches.
 abbrev pub OthersStay : Type 0
 OthersStay = (m : Machine) (actor : ℕ) (outcome : Outcome) (new : Machine) → StepsTo m actor outcome new →
-    (other : ℕ) → other ≢ actor → (new.activity other ≡ m.activity other) × ((page : ℕ) → mode_at new.latches other page ≡ mode_at m.latches other page)
+    (other : ℕ) → other ≢ actor → (new.activity other ≡ m.activity other) × (IsActor actor → LatchesFit m → HoldsPagesOfFile m → (page : ℕ) → modes new other page ≡ modes m other page)
 
 -- The order stays, or has one entry more at its end; and the lines stay.
 abbrev pub OrderGrows : Type 0

@@ -1,7 +1,6 @@
 -- What each step keeps over any disk, and what a body may know of a machine there, as laws.
 use Rattle.std.specs.Prelude.{◌≡◌, ◌⊎◌, ℕ, List, All, Some, None}
 use Rattle.hb_frag.specs.declared.pages.LivePage.{LivePage}
-use Rattle.hb_latch.specs.Tables.{mode_at}
 use Rattle.hb_space.specs.Actors.{IsActor}
 use Rattle.hb_ops.specs.declared.operations.Op.{Op}
 use Rattle.hb_activity.specs.declared.wanting.Wanted.{Wanted}
@@ -15,7 +14,7 @@ use Rattle.hb_core.specs.Asking.{wanted_by}
 use Rattle.hb_core.specs.Fetching.{Brings}
 use Rattle.hb_core.specs.KeptMachine.{MachineKeeps}
 use Rattle.hb_core.specs.Locking.{BoxLocksFit}
-use Rattle.hb_core.specs.Machines.{Machine, live_here, with_disk}
+use Rattle.hb_core.specs.Machines.{Machine, live_here, modes, with_disk}
 use Rattle.hb_core.specs.Rows.{IsAtHand, Row}
 use Rattle.hb_core.specs.Steps.{StepsInSequence, StepsTo}
 use Rattle.hb_core.specs.WaitingLaws.{Promotes}
@@ -51,4 +50,4 @@ WalksLeadOn = (m : Machine) (actor : ℕ) (fetched : StoreState) (held : ℕ) (b
 -- The page that a step latches is none that its actor holds, but for a promotion.
 abbrev pub NoPageIsLatchedTwice : Type 0
 NoPageIsLatchedTwice = (m : Machine) (actor : ℕ) (fetched : StoreState) (wanted : Wanted) (page : LivePage) → IsActor actor → MachineKeeps m → Brings m AnyPage fetched → wanted_by m actor ≡ Some wanted →
-    IsAtHand (with_disk fetched m.files m.clock m) (m.activity actor) wanted page → (mode_at m.latches actor wanted.page ≡ None) ⊎ Promotes (m.activity actor) wanted.page
+    IsAtHand (with_disk fetched m.files m.clock m) (m.activity actor) wanted page → (modes m actor wanted.page ≡ None) ⊎ Promotes (m.activity actor) wanted.page

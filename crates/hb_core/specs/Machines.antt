@@ -1,5 +1,6 @@
 -- The state of the step machine: all that a step looks at or changes, as data.
-use Rattle.std.specs.Prelude.{ℕ, ◌==◌, ◌+◌, nat_lt, if◌then◌else◌, List, length, Option, Some, None}
+use Rattle.std.specs.Prelude.{ℕ, ◌==◌, ◌+◌, nat_lt, if◌then◌else◌, List, [], ◌∷◌, length, Option, Some, None}
+use Rattle.std.specs.Option.{option_and_then}
 use Rattle.hb_frag.specs.declared.pages.LivePage.{LivePage}
 use Rattle.hb_frag.specs.declared.pages.Page.{Page}
 use Rattle.hb_frag.specs.declared.pages.Page.TheVariants.{Live, Free}
@@ -9,7 +10,10 @@ use Rattle.hb_activity.specs.declared.jobs.Job.{Job}
 use Rattle.hb_activity.specs.declared.activities.Activity.{Activity}
 use Rattle.hb_store.specs.declared.stops.StopWhy.{StopWhy}
 use Rattle.hb_activity.specs.Sights.{Sight}
-use Rattle.hb_latch.specs.Tables.{LatchTable}
+use Rattle.hb_activity.specs.declared.holding.Latch.{Latch}
+use Rattle.hb_activity.specs.Holding.{held_of}
+use Rattle.hb_activity.specs.Walks.{walk_held}
+use Rattle.hb_latch.specs.declared.modes.Mode.{Mode}
 use Rattle.hb_ops.specs.Files.{FileState, if_live, last_of}
 use Rattle.hb_pool.specs.Frames.{Use}
 use Rattle.hb_set.specs.Order.{Entry}
@@ -32,8 +36,6 @@ pub record Machine : Type 0 where
   pub answered : List Answered
   -- where each actor stands
   pub activity : ℕ → Activity
-  -- which pages each actor has latched, and in which mode
-  pub latches : LatchTable
   -- the jobs that wait for the workers, the oldest first
   pub jobs : List Job
   -- the lines that took effect, in the order of their effect, each with the reply that was given or is kept for it
@@ -57,6 +59,18 @@ settled_count m = mark_of m.store.log.groups (length m.order)
 -- the page of a number, where it is in memory and in use
 abbrev pub live_here : StoreState → ℕ → Option LivePage
 live_here st id = if_live (in_memory st id)
+
+-- the latches of an activity, where the page that a walk holds tells the mode; and the mode in which these hold a page
+abbrev pub latches_held : StoreState → Activity → List Latch
+latches_held st activity = held_of activity (option_and_then (live_here st) (walk_held activity))
+
+abbrev pub mode_among : ℕ → List Latch → Option Mode
+mode_among page [] = None
+mode_among page (latch ∷ rest) = if latch.page == page then Some latch.mode else mode_among page rest
+
+-- In which mode each actor has latched each page: as its activity says. Under no number but an actor's anybody stands who holds one.
+abbrev pub modes : Machine → ℕ → ℕ → Option Mode
+modes m actor page = mode_among page (latches_held m.store (m.activity actor))
 
 -- The number that a page takes that is made, and the head of the free chain afterwards: the chain's first page and the one that it
 -- names, where that is in memory; or, where the chain has none, the number behind the last page.

@@ -12,7 +12,7 @@ use Rattle.hb_activity.specs.declared.deciding.Fate.TheVariants as fates
 use Rattle.hb_activity.specs.Classes.{Hand, line_of}
 use Rattle.hb_activity.specs.Deeds.{Deed}
 use Rattle.hb_activity.specs.Walks.{walk_held}
-use Rattle.hb_latch.specs.Tables.{IsGrantable, LatchTable}
+use Rattle.hb_latch.specs.Tables.{HeldModes, IsGrantable}
 use Rattle.hb_space.specs.Actors.{IsActor}
 use Rattle.hb_ops.specs.declared.operations.Op.{Op}
 use Rattle.hb_set.specs.Order.{Entry}
@@ -34,19 +34,19 @@ abbrev pub AreApart : List Latch → Type 0
 AreApart latches = AllPairs (λ (l : Latch) (m : Latch). l.page ≢ m.page) latches
 
 -- An actor may have these latches: they are two at most, on different pages, and nobody is in the way.
-pub record MayHave (who : ℕ) (table : LatchTable) (latches : List Latch) : Type 0 where
+pub record MayHave (who : ℕ) (modes : HeldModes) (latches : List Latch) : Type 0 where
   pub actor : IsActor who
   pub few : length latches ≤ 2
   pub apart : AreApart latches
-  pub free : (page : ℕ) (mode : Mode) → mode_among page latches ≡ Some mode → IsGrantable table who page mode
+  pub free : (page : ℕ) (mode : Mode) → mode_among page latches ≡ Some mode → IsGrantable modes who page mode
 
 -- An actor may stand so, with its latches among these: nobody is in the way of them, they are on different pages, and the page that
 -- a walk holds is in memory and in use.
-pub record MayStand (actor : ℕ) (table : LatchTable) (st : StoreState) (activity : Activity) : Type 0 where
+pub record MayStand (actor : ℕ) (modes : HeldModes) (st : StoreState) (activity : Activity) : Type 0 where
   pub latches : IsActor actor
   pub walks : IsSome (walk_held activity) → IsSome (option_and_then (live_here st) (walk_held activity))
   pub apart : AreApart (latches_held st activity)
-  pub free : (page : ℕ) (mode : Mode) → mode_among page (latches_held st activity) ≡ Some mode → IsGrantable table actor page mode
+  pub free : (page : ℕ) (mode : Mode) → mode_among page (latches_held st activity) ≡ Some mode → IsGrantable modes actor page mode
 
 -- Jobs join the queue. All else is as it was.
 pub record Queues (jobs : List Job) (old new : RunningCore) : Type 0 where

@@ -40,7 +40,6 @@ after_insert = record {
   lines = inserts_a ∷ [];
   answered = record { line = 1; reply = replies.Done; at = 4 } ∷ [];
   at_work = (1, SessionIdle) ∷ [];
-  latched = [];
   jobs = [];
   order = record { line = inserts_a; reply = replies.Done } ∷ [];
   meta = flat_meta;

@@ -15,7 +15,6 @@ use Rattle.hb_core.specs.Keeps.{HoldsPagesOfFile, KnowsRoom}
 use Rattle.hb_core.specs.Machines.{Files, Machine}
 use Rattle.hb_core.specs.Performing.{PerformsAsItIs}
 use Rattle.hb_core.specs.Steps.{StepsTo}
-use Rattle.hb_latch.specs.Tables.{mode_at}
 use Rattle.hb_point.specs.SessionRows.{next_line, WantsBoxes}
 use Rattle.hb_store.specs.Calls.{KeepsAllButPages}
 use Rattle.hb_store.specs.States.{in_memory}
@@ -51,7 +50,6 @@ pub record AreOne (new next : Machine) : Type 0 where
   pub lines : new.lines ≡ next.lines
   pub answered : new.answered ≡ next.answered
   pub activity : (actor : ℕ) → new.activity actor ≡ next.activity actor
-  pub latches : (actor page : ℕ) → mode_at new.latches actor page ≡ mode_at next.latches actor page
   pub jobs : new.jobs ≡ next.jobs
   pub order : new.order ≡ next.order
   pub stop : new.stop ≡ next.stop

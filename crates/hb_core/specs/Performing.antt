@@ -1,19 +1,17 @@
--- How a deed is done: what becomes of the latches, the file, the queue, the order and the answers.
-use Rattle.std.specs.Prelude.{◌≡◌, ◌≢◌, ℕ, ◌==◌, if◌then◌else◌, false, List, [], ◌∷◌, ◌++◌, length, Option, Some, None, option_map}
+-- How a deed is done: what becomes of the file, the queue, the order and the answers; and of a core's table of latches.
+use Rattle.std.specs.Prelude.{◌≡◌, ◌≢◌, ℕ, false, List, [], ◌∷◌, ◌++◌, length, Option, Some, None, option_map}
 use Rattle.hb_ops.specs.declared.operations.Op.{Op}
 use Rattle.hb_set.specs.declared.scripts.Answered.{Answered}
-use Rattle.hb_latch.specs.declared.modes.Mode.{Mode}
 use Rattle.hb_activity.specs.declared.holding.Latch.{Latch}
 use Rattle.hb_activity.specs.declared.activities.Activity.{Activity}
 use Rattle.hb_activity.specs.declared.jobs.Job.{Job}
 use Rattle.hb_core.specs.declared.outcomes.Outcome.{Outcome}
 use Rattle.hb_core.specs.declared.outcomes.Outcome.TheVariants as outcomes
-use Rattle.std.specs.Option.{option_and_then, option_to_list}
+use Rattle.std.specs.Option.{option_to_list}
 use Rattle.hb_activity.specs.Deeds.{Deed, Answers, Drops, GoesOn, Says}
-use Rattle.hb_activity.specs.Holding.{held_of}
 use Rattle.hb_activity.specs.Queue.{AddsJobs, LeavesBy}
-use Rattle.hb_activity.specs.Walks.{walk_held}
-use Rattle.hb_core.specs.Machines.{Files, Machine, live_here, with_activity}
+pub use Rattle.hb_core.specs.Machines.{latches_held, mode_among}
+use Rattle.hb_core.specs.Machines.{Files, Machine, with_activity}
 use Rattle.hb_latch.specs.Tables.{LatchTable, mode_at}
 use Rattle.hb_log_codec.specs.Groups.{group_bytes}
 use Rattle.hb_store.specs.Calls.{Commits, IsAllowedHere, with_op}
@@ -24,15 +22,7 @@ use Rattle.hb_core.specs.Fetching.{MustStay}
 use Rattle.hb_core.specs.Using.{is_changed, pages_of, use_done, use_held}
 use Rattle.hb_pool.specs.Frames.{Use}
 
--- the latches of an activity, where the page that a walk holds tells the mode; and the mode in which these hold a page
-abbrev pub latches_held : StoreState → Activity → List Latch
-latches_held st activity = held_of activity (option_and_then (live_here st) (walk_held activity))
-
-abbrev pub mode_among : ℕ → List Latch → Option Mode
-mode_among page [] = None
-mode_among page (latch ∷ rest) = if latch.page == page then Some latch.mode else mode_among page rest
-
--- An actor has these latches now, and every other one has what it had.
+-- In a table of latches an actor has these now, and every other one has what it had.
 pub record Relatches (actor : ℕ) (latches : List Latch) (old new : LatchTable) : Type 0 where
   pub own : (page : ℕ) → mode_at new actor page ≡ mode_among page latches
   pub others : (other page : ℕ) → other ≢ actor → mode_at new other page ≡ mode_at old other page
@@ -85,7 +75,6 @@ pub record Performs (m : Machine) (fetched : StoreState) (actor : ℕ) (deed : D
   pub lines : new.lines ≡ m.lines
   pub answered : new.answered ≡ m.answered ++ given_by (outcome_of deed.says) m.clock
   pub activity : (other : ℕ) → new.activity other ≡ with_activity actor deed.next m.activity other
-  pub latches : Relatches actor (latches_held new.store deed.next) m.latches new.latches
   pub jobs : ChangesQueue deed m.jobs new.jobs
   pub order : new.order ≡ m.order ++ option_to_list deed.joins
   pub stop : new.stop ≡ m.stop

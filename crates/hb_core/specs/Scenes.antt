@@ -1,12 +1,11 @@
 -- Machines that are written down, and steps of theirs with what each comes to.
-use Rattle.std.specs.Prelude.{◌≡◌, ℕ, ◌==◌, nat_le, false, if◌then◌else◌, List, [], ◌∷◌, map, count_by, Some, None}
+use Rattle.std.specs.Prelude.{◌≡◌, ℕ, ◌==◌, nat_le, false, if◌then◌else◌, List, [], ◌∷◌, map, Some, None}
 use Rattle.std.specs.FinMap as finite
 use Rattle.std.specs.FinSet as set
 use Rattle.hb_frag.specs.declared.pages.Page.{Page}
 use Rattle.hb_layout.specs.declared.meta.Meta.{Meta}
 use Rattle.hb_set.specs.declared.scripts.Answered.{Answered}
 use Rattle.hb_set.specs.declared.scripts.Line.{Line}
-use Rattle.hb_latch.specs.declared.modes.Mode.{Mode}
 use Rattle.hb_activity.specs.declared.jobs.Job.{Job}
 use Rattle.hb_activity.specs.declared.activities.Activity.{Activity}
 use Rattle.hb_activity.specs.declared.activities.Activity.TheVariants.{SessionIdle, PosterIdle, ConsolidatorIdle, Flusher}
@@ -21,13 +20,11 @@ use Rattle.hb_store.specs.Replay.{is_among}
 use Rattle.hb_store.specs.States.{StoreState}
 use Rattle.hb_wal.specs.Log.{Waiting}
 
--- A machine as lists. Whoever isn't named among those at work is at rest.
+-- A machine as lists, in which nobody holds a page. Whoever isn't named among those at work is at rest.
 pub record Scene : Type 0 where
   pub lines : List Line
   pub answered : List Answered
   pub at_work : List (ℕ × Activity)
-  -- each latch, by its actor and its page
-  pub latched : List ((ℕ × ℕ) × Mode)
   pub jobs : List Job
   pub order : List Entry
   -- what the file says of itself; the log's turn, how much of the log is written, and the groups that wait
@@ -50,7 +47,6 @@ at_start lines jobs pages file = record {
   lines = lines;
   answered = [];
   at_work = [];
-  latched = [];
   jobs = jobs;
   order = [];
   meta = file.meta;
@@ -86,9 +82,9 @@ store_of s = record {
   stopped = false;
 }
 
--- its order of use: a page is pinned as many times as it is latched
+-- its order of use: nobody holds a page between the steps of these chains, so none is pinned
 abbrev pub uses_in : Scene → List Use
-uses_in s = map (λ (one : ℕ × Page). record { id = one.0; bytes = tt {0}; dirty = is_among one.0 s.dirty; pins = count_by (λ (latch : (ℕ × ℕ) × Mode). latch.0.1 == one.0) s.latched }) s.pages
+uses_in s = map (λ (one : ℕ × Page). record { id = one.0; bytes = tt {0}; dirty = is_among one.0 s.dirty; pins = 0 }) s.pages
 
 -- the machine of a scene
 abbrev pub machine_of : Scene → Machine
@@ -96,7 +92,6 @@ machine_of s = record {
   lines = s.lines;
   answered = s.answered;
   activity = standing s.at_work;
-  latches = finite.from_entries s.latched;
   jobs = s.jobs;
   order = s.order;
   stop = None;

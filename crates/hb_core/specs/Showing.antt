@@ -3,7 +3,7 @@ use Rattle.std.specs.Prelude.{◌≡◌, ◌≢◌, ◌⊎◌, ℕ, ◌-◌, ◌
 use Rattle.std.specs.List.{slice_get}
 use Rattle.hb_space.specs.declared.actors.TheConstants.{SESSIONS, ACTORS}
 use Rattle.hb_disk.specs.Model.{DiskModel}
-use Rattle.hb_latch.specs.Tables.{LatchTable}
+use Rattle.hb_latch.specs.Tables.{LatchTable, mode_at}
 use Rattle.hb_space.specs.Actors.{IsActor}
 use Rattle.hb_set.specs.declared.scripts.Line.{Line}
 use Rattle.hb_activity.specs.declared.jobs.Job.{Job}
@@ -16,7 +16,7 @@ use Rattle.hb_store.specs.declared.stops.StopWhy.{StopWhy}
 use Rattle.hb_core.specs.declared.counts.TidyCounts.{TidyCounts}
 use Rattle.hb_core.specs.Keeps.{HasNobodyElse}
 use Rattle.hb_core.specs.KeptSequence.{HasAnswer}
-use Rattle.hb_core.specs.Machines.{Files, Machine}
+use Rattle.hb_core.specs.Machines.{Files, Machine, modes}
 
 -- What a core holds. It has no replies of the order, no answers and no files: these are in the machines that it shows.
 pub record RunningCore : Type 0 where
@@ -76,7 +76,8 @@ pub record ShowsMachine (d : DiskModel) (c : RunningCore) (m : Machine) : Type 0
   pub all_actors : length c.activities ≡ ACTORS
   pub activities : (actor : ℕ) → IsActor actor → slice_get c.activities (actor - 1) ≡ Some (m.activity actor)
   pub nobody_else : HasNobodyElse m
-  pub latches : m.latches ≡ c.latches
+  -- the table of latches answers as the activities say
+  pub latches : modes m ≡ mode_at c.latches
   pub jobs : m.jobs ≡ c.jobs
   pub order : map (λ e. e.line.number) m.order ≡ c.order
   pub stop : m.stop ≡ c.stop

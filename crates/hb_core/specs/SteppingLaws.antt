@@ -7,7 +7,6 @@ use Rattle.hb_store.specs.declared.stops.StopWhy.{StopWhy}
 use Rattle.hb_core.specs.KeptLines.{HasLineBody}
 use Rattle.hb_core.specs.Machines.{Machine}
 use Rattle.hb_core.specs.Steps.{StepsInSequence}
-use Rattle.hb_latch.specs.Tables.{mode_at}
 use Rattle.hb_layout.specs.Limits.{IsLayout}
 use Rattle.hb_layout.specs.Offsets.{log_start}
 use Rattle.hb_frag.specs.declared.pages.Page.{Page}
@@ -41,14 +40,13 @@ pub record IsBegunStore (st : StoreState) : Type 0 where
   pub pages : AreGood st.meta (in_memory st)
 
 -- A machine that has taken no step, over any disk: no line was answered, each actor stands as one of its kind with nothing in hand,
--- nobody holds a latch, no job waits, nothing is in the order, and it runs.
+-- and so no latch, no job waits, nothing is in the order, and it runs.
 pub record IsBegun (m : Machine) : Type 0 where
   pub rising : AreRising m.lines
   pub bodies : All HasLineBody m.lines
   pub lines_fit : All (LineFits m.store.meta.k) m.lines
   pub unanswered : m.answered ≡ []
   pub idle : (actor : ℕ) → m.activity actor ≡ idle_of (class_for actor)
-  pub unlatched : (actor page : ℕ) → mode_at m.latches actor page ≡ None
   pub no_job : m.jobs ≡ []
   pub no_order : m.order ≡ []
   pub runs : m.stop ≡ None

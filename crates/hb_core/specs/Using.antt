@@ -3,7 +3,7 @@ use Rattle.std.specs.Prelude.{◌≡◌, ◌⊎◌, ℕ, Bool, false, if◌then�
 use Rattle.std.specs.Option.{option_map_or}
 use Rattle.hb_activity.specs.declared.wanting.Wanted.{Wanted}
 use Rattle.hb_activity.specs.declared.holding.Latch.{Latch}
-use Rattle.hb_latch.specs.Tables.{LatchTable, mode_at}
+use Rattle.hb_latch.specs.Tables.{HeldModes}
 use Rattle.hb_layout.specs.declared.meta.Meta.{Meta}
 use Rattle.hb_ops.specs.declared.operations.Op.{Op}
 use Rattle.hb_pool.specs.Frames.{Use, pinned, unpinned}
@@ -65,13 +65,13 @@ CameFor wanted meta uses came = (came ≡ uses)
 abbrev pub actors : List ℕ
 actors = 1 ∷ 2 ∷ 3 ∷ 4 ∷ 5 ∷ 6 ∷ 7 ∷ 8 ∷ 9 ∷ 10 ∷ 11 ∷ 12 ∷ 13 ∷ 14 ∷ 15 ∷ 16 ∷ 17 ∷ 18 ∷ 19 ∷ []
 
-abbrev pub holders : LatchTable → ℕ → ℕ
-holders table id = count_by (λ actor. is_some (mode_at table actor id)) actors
+abbrev pub holders : HeldModes → ℕ → ℕ
+holders modes id = count_by (λ actor. is_some (modes actor id)) actors
 
 abbrev pub pins_of : List Use → ℕ → ℕ
 pins_of uses id = option_map_or (λ (u : Use). u.pins) (frame_of uses id) 0
 
 -- The frames are those of the pages in memory, and a page is pinned as many times as actors have latched it.
-pub record FramesFit (store : StoreState) (uses : List Use) (table : LatchTable) : Type 0 where
+pub record FramesFit (store : StoreState) (uses : List Use) (modes : HeldModes) : Type 0 where
   pub tied : IsTied store uses
-  pub pins : (id : ℕ) → pins_of uses id ≡ holders table id
+  pub pins : (id : ℕ) → pins_of uses id ≡ holders modes id

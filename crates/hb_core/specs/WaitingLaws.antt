@@ -9,11 +9,10 @@ use Rattle.hb_activity.specs.declared.activities.Activity.{Activity}
 use Rattle.hb_activity.specs.declared.activities.Activity.TheVariants.{SessionIdle, PosterPromote, ConsolidatorPromote}
 use Rattle.hb_activity.specs.Waiting.{IsLater, WaitsFor}
 use Rattle.hb_core.specs.Asking.{IsInTheWay, wanted_by}
-use Rattle.hb_core.specs.Keeps.{HasNoOtherLatches, HasNobodyElse, HasSoundFile, LatchesFit, WalksInSpace}
+use Rattle.hb_core.specs.Keeps.{HasNobodyElse, HasSoundFile, LatchesFit, WalksInSpace}
 use Rattle.hb_core.specs.Locking.{AwaitsBox}
-use Rattle.hb_core.specs.Machines.{Files, Machine, current_file}
+use Rattle.hb_core.specs.Machines.{Files, Machine, current_file, modes}
 use Rattle.hb_core.specs.SteppingLaws.{IsAtRest}
-use Rattle.hb_latch.specs.Tables.{mode_at}
 use Rattle.hb_space.specs.Actors.{IsActor}
 use Rattle.hb_ops.specs.Files.{FileState, live_page}
 use Rattle.hb_point.specs.SessionRows.{next_line}
@@ -42,11 +41,11 @@ pub record WantsItsOwn (m : Machine) (actor id : ℕ) (mode : Mode) (wanted : Wa
 -- page alone.
 abbrev pub WantedComesLater : Type 0
 WantedComesLater = (m : Machine) (files : Files) (actor id : ℕ) (mode : Mode) (wanted : Wanted) → IsActor actor → LatchesFit m → HasSoundFile m files → WalksInSpace m →
-    wanted_by m actor ≡ Some wanted → mode_at m.latches actor id ≡ Some mode → ComesLater (current_file files) id wanted.page ⊎ WantsItsOwn m actor id mode wanted
+    wanted_by m actor ≡ Some wanted → modes m actor id ≡ Some mode → ComesLater (current_file files) id wanted.page ⊎ WantsItsOwn m actor id mode wanted
 
 -- An actor waits for another one, for its latch on a page or for its box; and so on, to the last.
 abbrev pub AwaitsActor : Machine → ℕ → ℕ → Type 0
-AwaitsActor m actor other = WaitsFor m.latches (wanted_by m) actor other ⊎ AwaitsBox m actor other
+AwaitsActor m actor other = WaitsFor (modes m) (wanted_by m) actor other ⊎ AwaitsBox m actor other
 
 abbrev pub WaitInSequence : Machine → ℕ → List ℕ → ℕ → Type 0
 WaitInSequence m actor [] last = AwaitsActor m actor last
@@ -54,7 +53,7 @@ WaitInSequence m actor (next ∷ rest) last = AwaitsActor m actor next × WaitIn
 
 -- No actor waits for itself in this way.
 abbrev pub NobodyWaitsInACircle : Type 0
-NobodyWaitsInACircle = (m : Machine) (files : Files) (actor : ℕ) (rest : List ℕ) → LatchesFit m → HasSoundFile m files → HasNobodyElse m → HasNoOtherLatches m → WalksInSpace m → WaitInSequence m actor rest actor → ⊥
+NobodyWaitsInACircle = (m : Machine) (files : Files) (actor : ℕ) (rest : List ℕ) → LatchesFit m → HasSoundFile m files → HasNobodyElse m → WalksInSpace m → WaitInSequence m actor rest actor → ⊥
 
 -- Where an actor is at work, not every actor at work is kept waiting.
 abbrev pub HasWorkLeft : Machine → ℕ → Type 0
@@ -64,7 +63,7 @@ abbrev pub IsKeptWaiting : Machine → ℕ → Type 0
 IsKeptWaiting m actor = (by : ℕ) × IsInTheWay m actor by
 
 abbrev pub SomebodyGoesOn : Type 0
-SomebodyGoesOn = (m : Machine) (files : Files) (actor : ℕ) → LatchesFit m → HasSoundFile m files → HasNobodyElse m → HasNoOtherLatches m → WalksInSpace m → HasWorkLeft m actor →
+SomebodyGoesOn = (m : Machine) (files : Files) (actor : ℕ) → LatchesFit m → HasSoundFile m files → HasNobodyElse m → WalksInSpace m → HasWorkLeft m actor →
     ((other : ℕ) → HasWorkLeft m other → IsKeptWaiting m other) → ⊥
 
 -- Whom an idle session waits for to lock its box is at work. So where an actor is under way, with something in hand or with a line to
@@ -79,5 +78,5 @@ abbrev pub IsKeptBack : Machine → ℕ → Type 0
 IsKeptBack m actor = IsKeptWaiting m actor ⊎ ((by : ℕ) × AwaitsBox m actor by)
 
 abbrev pub SomebodyUnderWayGoesOn : Type 0
-SomebodyUnderWayGoesOn = (m : Machine) (files : Files) (actor : ℕ) → LatchesFit m → HasSoundFile m files → HasNobodyElse m → HasNoOtherLatches m → WalksInSpace m → IsUnderWay m actor →
+SomebodyUnderWayGoesOn = (m : Machine) (files : Files) (actor : ℕ) → LatchesFit m → HasSoundFile m files → HasNobodyElse m → WalksInSpace m → IsUnderWay m actor →
     ((other : ℕ) → IsUnderWay m other → IsKeptBack m other) → ⊥

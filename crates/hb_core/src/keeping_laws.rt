@@ -2,7 +2,7 @@
 //! of steps. Each law is the contract of a function that does nothing: a caller learns it by the call.
 
 ghost use Rattle.hb_core.specs.DoableLaws.{PutsFindRoom, RowsCanBeDone};
-ghost use Rattle.hb_core.specs.KeepingLaws.{AnswersAreInPlace, BegunKeepsAll, FilesHavePrefixes, NobodyElseComes, NobodyElseLatches, PrefixStaysPending, RoomStaysKnown, SettledStaysSettled, StepsKeepAll, WalksStayInSpace};
+ghost use Rattle.hb_core.specs.KeepingLaws.{AnswersAreInPlace, BegunKeepsAll, FilesHavePrefixes, NobodyElseComes, PrefixStaysPending, RoomStaysKnown, SettledStaysSettled, StepsKeepAll, WalksStayInSpace};
 ghost use Rattle.hb_core.specs.SteppingLaws.{StepsGoOn, StoppedStays};
 
 use crate::file_laws::{
@@ -13,11 +13,10 @@ use crate::machine_laws::machines_stay_kept;
 use hb_frag::laws::{each_point_has_one_leaf, leaves_part_the_box, parts_are_stretches};
 use hb_layout::limits::limits_of_this_version;
 
-/// Under no number but those of the actors anybody comes to stand, or takes a latch.
-#[tactic(auto, using(crate::proofs::Facts::StillThere::nobody_else_comes, crate::proofs::Facts::StillThere::nobody_else_latches))]
+/// Under no number but those of the actors anybody comes to stand.
+#[tactic(auto, using(crate::proofs::Facts::StillThere::nobody_else_comes))]
 pub fn nobody_else_comes()
     ensures stands { NobodyElseComes }
-    ensures latches { NobodyElseLatches }
 {}
 
 /// After a step the page that a walk holds has the walk's point in its box, and the parent that a poster

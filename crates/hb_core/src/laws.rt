@@ -25,8 +25,8 @@ pub fn a_step_brings_what_it_needs()
     ensures { PagesComeByNeed }
 {}
 
-/// No other actor stands elsewhere after a step, or has other latches. The lines stay, and the order stays
-/// or has one entry more at its end.
+/// No other actor stands elsewhere after a step; and where latches fit, none has other latches. The lines
+/// stay, and the order stays or has one entry more at its end.
 pub fn a_step_leaves_other_actors_alone()
     ensures others { OthersStay }
     ensures order { OrderGrows }
@@ -41,8 +41,8 @@ pub fn each_point_has_one_page()
     a_level_parts_the_space();
 }
 
-/// After a step each actor holds the latches of its activity and no other, on pages in use, and latches of
-/// different actors on one page go beside each other, where that was so before.
+/// After a step all latches are on pages in use, and latches of different actors on one page go beside each
+/// other, where that was so before.
 pub fn latches_stay_fit()
     ensures { LatchesStayFit }
 {

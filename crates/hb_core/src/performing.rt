@@ -53,7 +53,7 @@ impl<D: Device> Core<D> {
     ) -> Result<Outcome, Halt>
         requires commit { IfSome next.op (MayCommit (D.model (core_disk self.old)) (core_seen self.old)) }
         requires stand { (st : StoreState) → MayDo next.op (length (core_seen self.old).order) (core_seen self.old).store st →
-            MayStand actor (core_seen self.old).latches st (placed_at (length (core_seen self.old).order) next.then) }
+            MayStand actor (mode_at (core_seen self.old).latches) st (placed_at (length (core_seen self.old).order) next.then) }
         requires room { IsSome (joins_order line next.then next.fate) → length (core_seen self.old).order < length (core_seen self.old).lines }
         requires few { length (core_seen self.old).order < 2 ^ 32 }
         requires hold { (st : StoreState) → MayDo next.op (length (core_seen self.old).order) (core_seen self.old).store st →
@@ -161,7 +161,7 @@ impl<D: Device> Core<D> {
 
     /// The actor stands so from now on, with the latches of that and no other. Its pins go over from these pages to those.
     pub(crate) fn stand_with(&mut self, actor: Actor, next: Activity, pins: &[u32])
-        requires stand { MayStand actor (core_seen self.old).latches (core_seen self.old).store next }
+        requires stand { MayStand actor (mode_at (core_seen self.old).latches) (core_seen self.old).store next }
         requires pins { CanMovePins pins.now (pages_of (latches_held (core_seen self.old).store next)) (core_seen self.old).uses }
         ensures { Alters (StandsNow actor pins.now next) self.old self.new }
     {
@@ -215,7 +215,7 @@ impl<D: Device> Core<D> {
 
     /// The actor has these latches and no other. Nobody is in the way of them.
     fn latch_all(&mut self, actor: Actor, latches: &[Latch])
-        requires { MayHave actor (core_seen self.old).latches latches.now }
+        requires { MayHave actor (mode_at (core_seen self.old).latches) latches.now }
         ensures latches { Relatches actor latches.now (core_seen self.old).latches (core_seen self.new).latches }
         ensures rest { ChangesBy (with_latches (core_seen self.new).latches) self.old self.new }
     {
@@ -264,7 +264,7 @@ fn take(latches: &mut Latches, actor: Actor, latch: Latch)
     requires actor { IsActor actor }
     requires few { latches_of latches.old actor < 3 }
     requires absent { mode_at latches.old actor latch.page ≡ None }
-    requires free { IsGrantable latches.old actor latch.page latch.mode }
+    requires free { IsGrantable (mode_at latches.old) actor latch.page latch.mode }
     ensures { latches.new ≡ map.insert latches.old (actor, latch.page) latch.mode }
 {
     match latches.try_take(actor, latch.page, latch.mode) {

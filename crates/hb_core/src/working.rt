@@ -1,6 +1,6 @@
 //! A step that wants a latch or changes the file.
 ghost use Rattle.std.specs.Prelude.{◌≡◌, ◌⊎◌, ◌↔◌, ◌≤◌, ◌++◌, length, None, IsTrue, IfOk, IfErr, IsErrAnd, IfSome, IsSomeAnd};
-ghost use Rattle.hb_latch.specs.Tables.{IsGrantable, IsLeastInTheWay};
+ghost use Rattle.hb_latch.specs.Tables.{IsGrantable, IsLeastInTheWay, mode_at};
 ghost use Rattle.hb_activity.specs.Classes.{hand_of};
 ghost use Rattle.hb_core.specs.Acting.{DoesRow};
 ghost use Rattle.hb_activity.specs.Wanting.{may_commit};
@@ -93,8 +93,8 @@ impl<D: Device> Core<D> {
 
     /// The least other actor that is in the way of the latch.
     fn in_the_way(&self, actor: Actor, wanted: Option<Wanted>) -> Option<Actor>
-        ensures free { result ≡ None → IfSome wanted (λ w. IsGrantable (core_seen self.now).latches actor w.page w.mode) }
-        ensures least { IfSome result (λ by. IsSomeAnd wanted (λ w. IsLeastInTheWay (core_seen self.now).latches actor w.page w.mode by)) }
+        ensures free { result ≡ None → IfSome wanted (λ w. IsGrantable (mode_at (core_seen self.now).latches) actor w.page w.mode) }
+        ensures least { IfSome result (λ by. IsSomeAnd wanted (λ w. IsLeastInTheWay (mode_at (core_seen self.now).latches) actor w.page w.mode by)) }
     {
         let wanted = wanted?;
         self.latches.in_the_way(actor, wanted.page, wanted.mode)

@@ -116,7 +116,6 @@ works_bringing more s pages actor deed jobs each clear ready row queue may used 
           lines = done.lines;
           answered = done.answered;
           activity = done.activity;
-          latches = done.latches;
           jobs = done.jobs;
           order = done.order;
           stop = done.stop;

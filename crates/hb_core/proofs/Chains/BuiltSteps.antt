@@ -1,7 +1,7 @@
 -- A step is built: the machine after a deed, and that the deed is done so.
-use Rattle.std.proofs.Common.{◌≡◌, ◌≢◌, inl, inr, ℕ, nat_le, ◌<◌, ◌≤◌, ◌++◌, false, List, [], ◌∷◌, Contains, length, get_or, Option, Some, None, IfSome, IsSomeAnd, IsTrue, refl, sym, ap, ◌∙◌, subst, arith, map}
+use Rattle.std.proofs.Common.{◌≡◌, ◌≢◌, ◌⊎◌, inl, inr, ℕ, ◌==◌, nat_le, ◌≤◌, ◌++◌, true, false, cond, List, [], ◌∷◌, length, get_or, Option, Some, None, IfSome, IsTrue, refl, sym, ap, ◌∙◌, subst, arith, map}
 use mathlib.Core.Path.{fun_ext}
-use Rattle.std.proofs.lemmas.Bool.{leb-true}
+use Rattle.std.proofs.lemmas.Bool.{eqb-true, leb-true}
 use Rattle.std.specs.Prelude.{◌||◌, ◌+◌, ◌*◌, ◌%◌}
 use Rattle.std.specs.FinMap as finite
 use Rattle.hb_space.specs.declared.form.TheConstants.{PAGE}
@@ -9,29 +9,28 @@ use Rattle.std.specs.Option.{option_and_then, option_to_list}
 use Rattle.hb_frag.specs.declared.pages.LivePage.{LivePage}
 use Rattle.hb_frag.specs.declared.pages.Page.{Page}
 use Rattle.hb_ops.specs.declared.operations.Op.{Op}
-use Rattle.hb_latch.specs.declared.modes.Mode.{Mode}
 use Rattle.hb_activity.specs.declared.holding.Latch.{Latch}
 use Rattle.hb_activity.specs.declared.jobs.Job.{Job}
-use Rattle.hb_activity.specs.declared.waiting_jobs.TheConstants.{JOBS}
 use Rattle.hb_activity.specs.declared.wanting.Wanted.{Wanted}
 use Rattle.hb_activity.specs.declared.activities.Activity.{Activity}
+use Rattle.hb_activity.specs.declared.activities.Activity.TheVariants.{SessionIdle, PosterIdle, ConsolidatorIdle, Flusher}
 use Rattle.hb_core.specs.declared.outcomes.Outcome.TheVariants as outcomes
 use Rattle.hb_activity.specs.Deeds.{Deed}
 use Rattle.hb_activity.specs.Holding.{held_of}
 use Rattle.hb_activity.specs.Queue.{AddsJobs, LeavesBy}
 use Rattle.hb_activity.specs.Walks.{walk_held}
 use Rattle.hb_activity.specs.Wanting.{wanted_of}
-use Rattle.hb_core.proofs.Chains.WrittenTables.{add_numbers, add_pages, among_in_log, entry_at, grants, hinders, is_another, is_clear, is_earlier, map_has, mode_in, pages_set, relatched, relatches, set_all, set_entry, set_has, standing_set, among_pages}
+use Rattle.hb_core.proofs.Chains.WrittenTables.{add_numbers, add_pages, among_in_log, among_pages, entry_at, map_has, pages_set, set_all, set_entry, set_has, standing_set}
 use Rattle.hb_core.specs.Acting.{takes_number}
 use Rattle.hb_core.specs.AskedBoxes.{HasAskedBox}
 use Rattle.hb_core.specs.Asking.{AskedBox, HasWayFree, asked_box, looked_page, wanted_by}
-use Rattle.hb_core.specs.Machines.{Files, live_here}
-use Rattle.hb_core.specs.Performing.{DoesOp, MayDo, Performs, Relatches, files_after, given_by, ChangesQueue, outcome_of, PerformsAsItIs, latches_held}
+use Rattle.hb_core.specs.Machines.{Files, latches_held, live_here, mode_among, modes}
+use Rattle.hb_core.specs.Performing.{DoesOp, MayDo, Performs, files_after, given_by, ChangesQueue, outcome_of, PerformsAsItIs}
 use Rattle.hb_core.specs.Rows.{IsAtHand, Row}
-use Rattle.hb_core.specs.Scenes.{Scene, machine_of, standing, store_of, uses_in}
+use Rattle.hb_core.specs.Scenes.{Scene, at_rest, machine_of, standing, store_of, uses_in}
 use Rattle.hb_core.specs.Steps.{IsUnready, Works, may_change_file, IsCrowded}
 use Rattle.hb_latch.specs.Modes.{goes_beside}
-use Rattle.hb_latch.specs.Tables.{IsGrantable, IsLeastInTheWay}
+use Rattle.hb_latch.specs.Tables.{IsGrantable}
 use Rattle.hb_log_codec.specs.Groups.{Logged, group_bytes}
 use Rattle.hb_ops.specs.Files.{if_live}
 use Rattle.hb_ops.specs.Operations.{Change, IsAllowedOn, change_of, reads_of}
@@ -161,7 +160,6 @@ abbrev pub after : List (ℕ × Page) → ℕ → Deed → List Job → Scene �
 after pages actor deed jobs s = let t = once_done deed.op s in record t {
   answered = s.answered ++ given_by (outcome_of deed.says) s.clock;
   at_work = set_entry actor deed.next s.at_work;
-  latched = relatched actor (held_in t deed.next) s.latched;
   jobs = jobs;
   order = s.order ++ option_to_list deed.joins;
   pages = pages;
@@ -223,8 +221,6 @@ module _ (ids : List ℕ) (came : List Use) (pins : List ℕ) (pages : List (ℕ
       lines = refl;
       answered = refl;
       activity = standing_set actor deed.next s.at_work;
-      latches = subst (λ (held : List Latch). Relatches actor held (finite.from_entries s.latched) (finite.from_entries (relatched actor (held_in (once_done deed.op s) deed.next) s.latched))) (sym held_then)
-          (relatches actor (held_in (once_done deed.op s) deed.next) s.latched);
       jobs = queue;
       order = refl;
       stop = refl;
@@ -265,16 +261,37 @@ wanted_in s actor = wanted_of (standing s.at_work actor) s.meta (option_and_then
 pub wanted_is : (s : Scene) (actor : ℕ) → wanted_by (machine_of s) actor ≡ wanted_in s actor
 wanted_is s actor = ap (wanted_of (standing s.at_work actor) s.meta) (looks_is s (looked_page (standing s.at_work actor)))
 
--- nobody is in the way
-abbrev pub IsClearIn : Scene → ℕ → Type 0
-IsClearIn s actor = IfSome (wanted_in s actor) (λ w. IsTrue (is_clear (is_another actor) w.page w.mode s.latched))
+-- Nobody else at work holds a page, and who rests holds none; so nobody is in the way.
+abbrev pub NoneHolds : Scene → ℕ → List (ℕ × Activity) → Type 0
+NoneHolds s actor [] = Unit {0}
+NoneHolds s actor (one ∷ rest) = ((one.0 ≡ actor) ⊎ (latches_held (store_of s) one.1 ≡ [])) × NoneHolds s actor rest
 
-granted : (s : Scene) (actor : ℕ) (o : Option Wanted) → IfSome o (λ w. IsTrue (is_clear (is_another actor) w.page w.mode s.latched)) → IfSome o (λ w. IsGrantable (finite.from_entries s.latched) actor w.page w.mode)
+rests_free : (s : Scene) (actor : ℕ) → latches_held (store_of s) (at_rest actor) ≡ []
+rests_free s actor = elim (nat_le actor 16) as (λ b. latches_held (store_of s) (cond b SessionIdle (cond (actor == 17) PosterIdle (cond (actor == 18) ConsolidatorIdle Flusher))) ≡ []) [
+  | true ↦ refl
+  | false ↦ elim (actor == 17) as (λ b. latches_held (store_of s) (cond b PosterIdle (cond (actor == 18) ConsolidatorIdle Flusher)) ≡ []) [
+    | true ↦ refl
+    | false ↦ elim (actor == 18) as (λ b. latches_held (store_of s) (cond b ConsolidatorIdle Flusher) ≡ []) [ true ↦ refl | false ↦ refl ]
+  ]
+]
+
+none_held : (s : Scene) (actor : ℕ) (all : List (ℕ × Activity)) → NoneHolds s actor all → (other : ℕ) → other ≢ actor → latches_held (store_of s) (standing all other) ≡ []
+none_held s actor [] none other another = rests_free s other
+none_held s actor (one ∷ rest) none other another = elim (other == one.0) as (λ b. (other == one.0) ≡ b → latches_held (store_of s) (cond b one.1 (standing rest other)) ≡ []) [
+  | true ↦ λ here. elim none.0 [ inl same ↦ absurd (another (eqb-true other one.0 here ∙ same)) | inr free ↦ free ]
+  | false ↦ λ off. none_held s actor rest none.1 other another
+] refl
+
+abbrev pub IsClearIn : Scene → ℕ → Type 0
+IsClearIn s actor = NoneHolds s actor s.at_work
+
+granted : (s : Scene) (actor : ℕ) (o : Option Wanted) → IsClearIn s actor → IfSome o (λ w. IsGrantable (modes (machine_of s)) actor w.page w.mode)
 granted s actor None clear = tt
-granted s actor (Some w) clear = grants actor w.page w.mode s.latched clear
+granted s actor (Some w) clear other another =
+    subst (λ (held : List Latch). IfSome (mode_among w.page held) (λ mode. IsTrue (goes_beside w.mode mode))) (sym (none_held s actor s.at_work clear other another)) tt
 
 pub way_free : (s : Scene) (actor : ℕ) → IsClearIn s actor → HasWayFree (machine_of s) actor
-way_free s actor clear = subst (λ (o : Option Wanted). IfSome o (λ w. IsGrantable (finite.from_entries s.latched) actor w.page w.mode)) (sym (wanted_is s actor)) (granted s actor (wanted_in s actor) clear)
+way_free s actor clear = granted s actor (wanted_by (machine_of s) actor) clear
 
 -- what came and is pinned then
 abbrev pub came_in : Scene → ℕ → Option Op → List Use
@@ -323,17 +340,6 @@ at_hand s activity wanted page asked live level asks box = record {
   box = subst (λ (o : Option AskedBox). IfSome o (λ a. HasAskedBox a page.area)) (sym asks) box;
 }
 
--- another actor is in the way
-hindered : (s : Scene) (actor by : ℕ) (held : Mode) (o : Option Wanted) (w : Wanted) → o ≡ Some w → by ≢ actor → mode_in by w.page s.latched ≡ Some held → goes_beside w.mode held ≡ false
-    → IsTrue (is_clear (is_earlier by actor) w.page w.mode s.latched) → IsSomeAnd o (λ wanted. IsLeastInTheWay (finite.from_entries s.latched) actor wanted.page wanted.mode by)
-hindered s actor by held o w is another has conflict clear =
-    subst (λ (x : Option Wanted). IsSomeAnd x (λ wanted. IsLeastInTheWay (finite.from_entries s.latched) actor wanted.page wanted.mode by)) (sym is)
-    (hinders actor w.page w.mode held by s.latched another has conflict clear)
-
-pub blocked : (s : Scene) (actor by : ℕ) (held : Mode) (w : Wanted) → wanted_in s actor ≡ Some w → by ≢ actor → mode_in by w.page s.latched ≡ Some held → goes_beside w.mode held ≡ false
-    → IsTrue (is_clear (is_earlier by actor) w.page w.mode s.latched) → Works (machine_of s) actor (outcomes.Blocked by) (machine_of s)
-blocked s actor by held w is another has conflict clear = inl (by, hindered s actor by held (wanted_by (machine_of s) actor) w (wanted_is s actor ∙ is) another has conflict clear, (refl, refl))
-
 -- why log and memory are ready: the step doesn't change the file, or there is room; and there are places
 no_crowd : (s : Scene) (actor : ℕ) → IsTrue (nat_le 3 (places (uses_in s))) → ¬ (IsCrowded (machine_of s) actor)
 no_crowd s actor some crowded = let three = leb-true 3 (places (uses_in s)) some in let none = crowded.0 in none_left (places (uses_in s)) three none
@@ -348,10 +354,3 @@ only_looks s actor looks some (inr crowded) = no_crowd s actor some crowded
 pub has_room : (s : Scene) (actor : ℕ) → IsReady (store_of s) → IsTrue (nat_le 3 (places (uses_in s))) → ¬ (IsUnready (machine_of s) actor)
 has_room s actor ready some (inl unready) = unready.1 (ready, leb-true 3 (places (uses_in s)) some)
 has_room s actor ready some (inr crowded) = no_crowd s actor some crowded
-
--- a job joins the queue, which doesn't have it yet
-pub none_waits : (one : Job) → ¬ (Contains [] one)
-none_waits one (k, less, is) = absurd (omega (arith, less))
-
-pub one_joins : (job : Job) (old : List Job) → ¬ (Contains old job) → length old < JOBS → AddsJobs (job ∷ []) old (old ++ job ∷ [])
-one_joins job old new few = (old ++ job ∷ [], inr (inl (new, few, refl)), refl)

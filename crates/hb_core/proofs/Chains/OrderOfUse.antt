@@ -3,11 +3,11 @@ use Rattle.std.proofs.Common.{◌≡◌, inl, inr, ℕ, ◌==◌, ◌≤◌, nat
 use Rattle.std.specs.Prelude.{◌&&◌, ◌||◌, if◌then◌else◌}
 use Rattle.std.specs.List.{AllByRecursion, count_by}
 use Rattle.std.specs.Option.{is_some, option_map_or}
-use Rattle.std.specs.Cmp.{nat_cmp_total, unsigned_tied}
+use Rattle.std.specs.Cmp.{nat_cmp_total}
 use Rattle.std.specs.Ordering.{nat_cmp}
 use Rattle.std.specs.FinMap as map
 use Rattle.std.specs.FinSet as set
-use Rattle.std.proofs.lemmas.Bool.{cases_Bool, eqb-true, leb-true, not-true, and_right}
+use Rattle.std.proofs.lemmas.Bool.{cases_Bool, eqb-true, leb-true, not-true}
 use Rattle.std.proofs.lemmas.List.Elements.{All-from_recursion}
 use Rattle.std.proofs.lemmas.List.Sums.{sum_by-cons}
 use Rattle.hb_lemmas.proofs.Options.{none_so}
@@ -222,38 +222,3 @@ tied s uses all =
           (λ is. frame_used uses id ∙ among_used s.dirty uses (and_second (are_marked s.dirty uses) (have_frames s.dirty uses) marks) id is)
           (frame_marked s.dirty uses (and_first (are_marked s.dirty uses) (have_frames s.dirty uses) marks) id);
     }
-
--- ---- a page that isn't to be written to its place any more
-
-abbrev pub without : ℕ → List ℕ → List ℕ
-without id [] = []
-without id (n ∷ ns) = if n == id then without id ns else n ∷ without id ns
-
-or_left : (b a : Bool) → (not b && a) ≡ (not b && (b || a))
-or_left true a = refl
-or_left false a = refl
-
-or_right : (b c a : Bool) → (b ≡ true → c ≡ true → ⊥) → (b || (not c && a)) ≡ (not c && (b || a))
-or_right true true a apart = absurd (apart refl refl)
-or_right true false a apart = refl
-or_right false c a apart = refl
-
-among_without : (id : ℕ) (ns : List ℕ) (q : ℕ) → is_among q (without id ns) ≡ (not (q == id) && is_among q ns)
-among_without id [] q = sym (and_right (not (q == id)) false refl)
-among_without id (n ∷ ns) q = elim (cases_Bool (n == id)) [
-  | inl here ↦
-      ap (λ (b : Bool). is_among q (cond b (without id ns) (n ∷ without id ns))) here
-      ∙ among_without id ns q
-      ∙ or_left (q == id) (is_among q ns)
-      ∙ ap (λ (k : ℕ). not (q == id) && ((q == k) || is_among q ns)) (sym (eqb-true n id here))
-  | inr off ↦
-      ap (λ (b : Bool). is_among q (cond b (without id ns) (n ∷ without id ns))) off
-      ∙ ap (λ (b : Bool). (q == n) || b) (among_without id ns q)
-      ∙ or_right (q == n) (q == id) (is_among q ns) (not_both q n id off)
-]
-
-pub cleaned_set : (id : ℕ) (ns : List ℕ) → set.from_list {R = nat_cmp} (without id ns) ≡ set.remove (set.from_list ns) id
-cleaned_set id ns = set.same_set nat_cmp_total set.nat_cmp-IsAntisymmetric _ _ (λ q.
-    set_has (without id ns) q
-    ∙ among_without id ns q
-    ∙ sym (set.contains-remove nat_cmp_total (set.from_list ns) id q ∙ (λ i. not (unsigned_tied q id i) && set_has ns q i)))

@@ -1,5 +1,5 @@
 -- A line is taken: nobody's lock keeps the session from its box.
-use Rattle.std.proofs.Common.{◌≡◌, ◌≢◌, ◌⊎◌, inl, inr, ℕ, ◌==◌, nat_le, Bool, true, cond, false, List, [], ◌∷◌, IsSomeAnd, refl, ◌∙◌, arith}
+use Rattle.std.proofs.Common.{◌≡◌, ◌≢◌, ◌⊎◌, inl, inr, ℕ, ◌==◌, nat_le, true, cond, false, List, [], ◌∷◌, IsSomeAnd, refl, ◌∙◌}
 use Rattle.std.proofs.lemmas.Bool.{eqb-true}
 use Rattle.hb_activity.specs.declared.jobs.Job.{Job}
 use Rattle.hb_activity.specs.declared.activities.Activity.{Activity}
@@ -13,7 +13,6 @@ use Rattle.hb_core.specs.Steps.{BeginsLine}
 use Rattle.hb_activity.specs.BoxLocks.{lock_of, lock_of_command}
 use Rattle.hb_boxlock.specs.declared.locks.BoxLock.{BoxLock}
 use Rattle.hb_point.specs.SessionRows.{taking}
-use Rattle.hb_space.specs.Boxes.{point_area}
 use Rattle.hb_set.specs.declared.scripts.Line.{Line}
 use Rattle.hb_core.proofs.Chains.BuiltSteps.{IsUsedAsItIs, after_as_it_is, performed}
 

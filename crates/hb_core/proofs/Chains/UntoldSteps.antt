@@ -35,7 +35,6 @@ performed_untold s actor deed jobs queue may used =
       lines = refl;
       answered = refl;
       activity = done.activity;
-      latches = done.latches;
       jobs = queue;
       order = refl;
       stop = refl;

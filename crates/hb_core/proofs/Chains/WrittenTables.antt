@@ -1,28 +1,19 @@
 -- Tables that are written down as lists: what they answer, and what they are after a change.
-use Rattle.std.proofs.Common.{◌≡◌, ◌≢◌, inl, inr, ℕ, ◌==◌, Bool, true, false, cond, not, List, [], ◌∷◌, ◌++◌, Option, Some, None, IfSome, IsSome, IsSomeAnd, IsTrue, refl, sym, ap, ◌∙◌, subst, ne_eqb, nat_eq}
+use Rattle.std.proofs.Common.{◌≡◌, inl, inr, ℕ, ◌==◌, Bool, true, false, cond, List, [], ◌∷◌, ◌++◌, Option, Some, None, IsSome, IsTrue, refl, sym, ap, ◌∙◌, subst, nat_eq}
 use mathlib.Core.Path.{fun_ext}
-use Rattle.std.specs.Prelude.{◌&&◌, ◌||◌, if◌then◌else◌, nat_lt}
-use Rattle.std.proofs.lemmas.Bool.{cases_Bool, eqb-true, eqb-false, eq-eqb, lt-ltb, and_parts}
+use Rattle.std.specs.Prelude.{◌&&◌, ◌||◌, if◌then◌else◌}
+use Rattle.std.proofs.lemmas.Bool.{cases_Bool, eqb-true, eqb-false, and_parts}
 use Rattle.std.specs.List.{AllByRecursion}
-use Rattle.std.specs.Ordering.{nat_cmp, is_eq, ordering_then}
-use Rattle.std.specs.Cmp.{nat_cmp_total, unsigned_tied}
-use Rattle.std.specs.declared.cmp.Ordering.{Ordering}
-use Rattle.std.specs.declared.cmp.Ordering.TheVariants.{Less, Equal, Greater}
+use Rattle.std.specs.Ordering.{nat_cmp}
+use Rattle.std.specs.Cmp.{nat_cmp_total}
 use Rattle.std.specs.Map.{lookup}
 use Rattle.std.specs.FinMap as map
 use Rattle.std.specs.FinSet as set
 use Rattle.std.proofs.lemmas.Option.{same_Some}
-use Rattle.hb_lemmas.proofs.Options.{not_both as none_so_and}
 use Rattle.hb_frag.specs.declared.pages.Page.{Page}
-use Rattle.hb_latch.specs.declared.modes.Mode.{Mode}
-use Rattle.hb_activity.specs.declared.holding.Latch.{Latch}
 use Rattle.hb_activity.specs.declared.activities.Activity.{Activity}
 use Rattle.hb_core.specs.Machines.{with_activity}
-use Rattle.hb_core.specs.Performing.{Relatches, mode_among}
 use Rattle.hb_core.specs.Scenes.{at_rest, standing}
-use Rattle.hb_latch.proofs.Facts.KeyOrder.{latch_order}
-use Rattle.hb_latch.specs.Modes.{goes_beside}
-use Rattle.hb_latch.specs.Tables.{IsGrantable, IsLeastInTheWay, latch_cmp, mode_at}
 use Rattle.hb_store.specs.Replay.{is_among}
 use Rattle.hb_ops.specs.SetPages.{set_pages, has_page}
 use Rattle.hb_core.proofs.Facts.NextLines.{or_assoc}
@@ -169,141 +160,8 @@ among_pages q (one ∷ rest) old = among_added q one.0 (add_pages rest old) ∙ 
 pub among_in_log : (q : ℕ) (changed : List (ℕ × Page)) (ns old : List ℕ) → is_among q (add_pages changed (add_numbers ns old)) ≡ (has_page q changed || (is_among q ns || is_among q old))
 among_in_log q changed ns old = among_pages q changed (add_numbers ns old) ∙ ap (λ (b : Bool). has_page q changed || b) (among_numbers q ns old)
 
--- ---- latches
-
-abbrev pub LatchList : Type 0
-LatchList = List ((ℕ × ℕ) × Mode)
-
-abbrev pub mode_in : ℕ → ℕ → LatchList → Option Mode
-mode_in actor page [] = None
-mode_in actor page (one ∷ rest) = if (actor == one.0.0) && (page == one.0.1) then Some one.1 else mode_in actor page rest
-
--- the latches without those of an actor, and with others for it
-abbrev pub without_actor : ℕ → LatchList → LatchList
-without_actor actor [] = []
-without_actor actor (one ∷ rest) = if actor == one.0.0 then without_actor actor rest else one ∷ without_actor actor rest
-
-abbrev pub relatched : ℕ → List Latch → LatchList → LatchList
-relatched actor [] old = without_actor actor old
-relatched actor (latch ∷ rest) old = ((actor, latch.page), latch.mode) ∷ relatched actor rest old
-
-both_tie : (o r : Ordering) → is_eq (ordering_then o r) ≡ (is_eq o && is_eq r)
-both_tie Less r = refl
-both_tie Equal r = refl
-both_tie Greater r = refl
-
-latch_found : (es : LatchList) (actor page : ℕ) → map.find latch_cmp (actor, page) es ≡ mode_in actor page es
-latch_found [] actor page = refl
-latch_found (e ∷ es) actor page =
-    ap (λ (b : Bool). cond b (Some e.1) (map.find latch_cmp (actor, page) es)) (both_tie (nat_cmp actor e.0.0) (nat_cmp page e.0.1))
-    ∙ (λ i. cond (unsigned_tied actor e.0.0 i && unsigned_tied page e.0.1 i) (Some e.1) (latch_found es actor page i))
-
-pub table_has : (es : LatchList) (actor page : ℕ) → mode_at (map.from_entries es) actor page ≡ mode_in actor page es
-table_has es actor page = map.get-from_entries latch_order es (actor, page) ∙ latch_found es actor page
-
--- the actor itself
-none_left : (actor page : ℕ) (es : LatchList) → mode_in actor page (without_actor actor es) ≡ None
-none_left actor page [] = refl
-none_left actor page (e ∷ es) = elim (cases_Bool (actor == e.0.0)) [
-  | inl here ↦ ap (λ (b : Bool). mode_in actor page (cond b (without_actor actor es) (e ∷ without_actor actor es))) here ∙ none_left actor page es
-  | inr off ↦
-      ap (λ (b : Bool). mode_in actor page (cond b (without_actor actor es) (e ∷ without_actor actor es))) off
-      ∙ ap (λ (b : Bool). cond (b && (page == e.0.1)) (Some e.1) (mode_in actor page (without_actor actor es))) off
-      ∙ none_left actor page es
-]
-
-pub turned : (a b : ℕ) → (a == b) ≡ (b == a)
-turned a b = elim (cases_Bool (a == b)) [
-  | inl same ↦ same ∙ sym (eq-eqb b a (sym (eqb-true a b same)))
-  | inr off ↦ off ∙ sym (ne_eqb b a (λ e. eqb-false a b off (sym e)))
-]
-
-own_found : (actor page : ℕ) (held : List Latch) (es : LatchList) → mode_in actor page (relatched actor held es) ≡ mode_among page held
-own_found actor page [] es = none_left actor page es
-own_found actor page (latch ∷ rest) es =
-    ap (λ (b : Bool). cond (b && (page == latch.page)) (Some latch.mode) (mode_in actor page (relatched actor rest es))) (eq-eqb actor actor refl)
-    ∙ (λ i. cond (turned page latch.page i) (Some latch.mode) (own_found actor page rest es i))
-
--- every other one
-others_left : (actor other page : ℕ) → other ≢ actor → (es : LatchList) → mode_in other page (without_actor actor es) ≡ mode_in other page es
-others_left actor other page another [] = refl
-others_left actor other page another (e ∷ es) = elim (cases_Bool (actor == e.0.0)) [
-  | inl here ↦
-      ap (λ (b : Bool). mode_in other page (cond b (without_actor actor es) (e ∷ without_actor actor es))) here
-      ∙ others_left actor other page another es
-      ∙ sym (ap (λ (b : Bool). cond (b && (page == e.0.1)) (Some e.1) (mode_in other page es)) (ne_eqb other e.0.0 (λ same. another (same ∙ sym (eqb-true actor e.0.0 here)))))
-  | inr off ↦
-      ap (λ (b : Bool). mode_in other page (cond b (without_actor actor es) (e ∷ without_actor actor es))) off
-      ∙ ap (cond ((other == e.0.0) && (page == e.0.1)) (Some e.1)) (others_left actor other page another es)
-]
-
-others_found : (actor other page : ℕ) → other ≢ actor → (held : List Latch) (es : LatchList) → mode_in other page (relatched actor held es) ≡ mode_in other page es
-others_found actor other page another [] es = others_left actor other page another es
-others_found actor other page another (latch ∷ rest) es =
-    ap (λ (b : Bool). cond (b && (page == latch.page)) (Some latch.mode) (mode_in other page (relatched actor rest es))) (ne_eqb other actor another)
-    ∙ others_found actor other page another rest es
-
-pub relatches : (actor : ℕ) (held : List Latch) (es : LatchList) → Relatches actor held (map.from_entries es) (map.from_entries (relatched actor held es))
-relatches actor held es = record {
-  own = λ page. table_has (relatched actor held es) actor page ∙ own_found actor page held es;
-  others = λ other page another. table_has (relatched actor held es) other page ∙ others_found actor other page another held es ∙ sym (table_has es other page);
-}
-
--- ---- who is in the way
-
--- no latch on a page, of an actor about whom it is asked, conflicts with a mode
-abbrev pub is_clear : (ℕ → Bool) → ℕ → Mode → LatchList → Bool
-is_clear asked page mode [] = true
-is_clear asked page mode (one ∷ rest) = (not (asked one.0.0) || (not (page == one.0.1) || goes_beside mode one.1)) && is_clear asked page mode rest
-
 pub and_first : (a b : Bool) → IsTrue (a && b) → IsTrue a
 and_first a b both = (and_parts a b both).0
 
 pub and_second : (a b : Bool) → IsTrue (a && b) → IsTrue b
 and_second a b both = (and_parts a b both).1
-
-left_off : (a b : Bool) → a ≡ true → IsTrue (not a || b) → IsTrue b
-left_off true b is e = e
-left_off false b is e = absurd (let no : ⊥ = cc in no)
-
-go_beside : (asked : ℕ → Bool) (page : ℕ) (mode : Mode) (es : LatchList) → IsTrue (is_clear asked page mode es) → (other : ℕ) → asked other ≡ true → IfSome (mode_in other page es) (λ held. IsTrue (goes_beside mode held))
-go_beside asked page mode [] clear other is = tt
-go_beside asked page mode (e ∷ es) clear other is =
-    let first : IsTrue (not (asked e.0.0) || (not (page == e.0.1) || goes_beside mode e.1)) = and_first (not (asked e.0.0) || (not (page == e.0.1) || goes_beside mode e.1)) (is_clear asked page mode es) clear in
-    let later = go_beside asked page mode es (and_second (not (asked e.0.0) || (not (page == e.0.1) || goes_beside mode e.1)) (is_clear asked page mode es) clear) other is in
-    elim (cases_Bool (other == e.0.0)) [
-      | inl actor ↦ elim (cases_Bool (page == e.0.1)) [
-        | inl here ↦
-            subst (λ (b : Bool). IfSome (cond b (Some e.1) (mode_in other page es)) (λ held. IsTrue (goes_beside mode held))) (sym ((λ i. actor i && here i)))
-            (left_off (page == e.0.1) (goes_beside mode e.1) here (left_off (asked e.0.0) (not (page == e.0.1) || goes_beside mode e.1) (subst (λ (n : ℕ). asked n ≡ true) (eqb-true other e.0.0 actor) is) first))
-        | inr off ↦ subst (λ (b : Bool). IfSome (cond b (Some e.1) (mode_in other page es)) (λ held. IsTrue (goes_beside mode held))) (sym ((λ i. actor i && off i))) later
-      ]
-      | inr off ↦ subst (λ (b : Bool). IfSome (cond (b && (page == e.0.1)) (Some e.1) (mode_in other page es)) (λ held. IsTrue (goes_beside mode held))) (sym off) later
-    ]
-
-abbrev pub is_another : ℕ → ℕ → Bool
-is_another actor other = not (other == actor)
-
-abbrev pub is_earlier : ℕ → ℕ → ℕ → Bool
-is_earlier by actor other = nat_lt other by && not (other == actor)
-
-another_is : (actor other : ℕ) → other ≢ actor → is_another actor other ≡ true
-another_is actor other another = ap not (ne_eqb other actor another)
-
--- nobody is
-pub grants : (actor page : ℕ) (mode : Mode) (es : LatchList) → IsTrue (is_clear (is_another actor) page mode es) → IsGrantable (map.from_entries es) actor page mode
-grants actor page mode es clear other another =
-    subst (λ (o : Option Mode). IfSome o (λ held. IsTrue (goes_beside mode held))) (sym (table_has es other page))
-    (go_beside (is_another actor) page mode es clear other (another_is actor other another))
-
-pub hinders : (actor page : ℕ) (mode held : Mode) (by : ℕ) (es : LatchList) → by ≢ actor → mode_in by page es ≡ Some held → goes_beside mode held ≡ false
-    → IsTrue (is_clear (is_earlier by actor) page mode es) → IsLeastInTheWay (map.from_entries es) actor page mode by
-hinders actor page mode held by es another has conflict clear = record {
-  keeps = record {
-    another = another;
-    conflict = subst (λ (o : Option Mode). IsSomeAnd o (λ (h : Mode). ¬ (IsTrue (goes_beside mode h)))) (sym (table_has es by page ∙ has)) (λ on. let no : ⊥ = cc in no);
-  };
-  least = λ earlier less keeps. none_so_and (mode_in earlier page es) (λ held. IsTrue (goes_beside mode held))
-      (subst (λ (o : Option Mode). IsSomeAnd o (λ (h : Mode). ¬ (IsTrue (goes_beside mode h)))) (table_has es earlier page) keeps.conflict)
-      (go_beside (is_earlier by actor) page mode es clear earlier (λ i. lt-ltb earlier by less i && another_is actor earlier keeps.another i));
-}

@@ -14,7 +14,6 @@ use Rattle.hb_core.specs.Taking.{begun_core}
 use Rattle.hb_core.specs.Working.{MayStep}
 use Rattle.hb_disk.specs.Model.{DiskModel}
 use Rattle.hb_frag.specs.declared.pages.Page.{Page}
-use Rattle.hb_latch.specs.Tables.{latch_cmp}
 use Rattle.hb_lemmas.proofs.Options.{has_value, not_none}
 use Rattle.hb_ops.specs.Files.{FileState}
 use Rattle.hb_ops.specs.Sound.{IsSound}
@@ -31,7 +30,6 @@ begun_machine lines store files clock = record {
   lines = lines;
   answered = [];
   activity = λ actor. idle_of (class_for actor);
-  latches = map.empty;
   jobs = [];
   order = [];
   stop = None;
@@ -72,7 +70,6 @@ module _ (lines : List Line) (store : StoreState) (may : MayBegin lines store) (
     lines_fit = may.fit;
     unanswered = refl;
     idle = λ actor. refl;
-    unlatched = λ actor page. map.get-empty latch_cmp (actor, page);
     no_job = refl;
     no_order = refl;
     runs = refl;

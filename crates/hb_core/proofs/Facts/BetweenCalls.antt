@@ -44,7 +44,8 @@ use Rattle.hb_core.specs.Between.{CopiesPage, FailsToLook, IsNotCopied, LetsWait
 use Rattle.hb_core.specs.Forcing.{Flushes}
 use Rattle.hb_core.specs.Keeps.{HasSoundFile}
 use Rattle.hb_core.specs.KeptFits.{JobFits}
-use Rattle.hb_core.specs.Machines.{Machine, current_file, stopped_for, with_disk, with_uses}
+use Rattle.hb_core.specs.Machines.{Machine, current_file, modes, stopped_for, with_disk, with_uses}
+use Rattle.hb_core.proofs.Memory.BroughtPages.{same_held}
 use Rattle.hb_core.specs.Moving.{with_jobs, with_order_of_use, with_stop, with_store}
 use Rattle.hb_core.specs.Showing.{RunningCore, ShowsMachine}
 use Rattle.hb_core.specs.Touching.{Touches, held_in}
@@ -102,7 +103,7 @@ module _ (d e : DiskModel) (c : RunningCore) (m : Machine) (id : ℕ) (step : Ma
     }
 
     steps_then : MayStep e then looked
-    steps_then = record { shows = shows_store m d e c failed st step.shows looks uses; goes_on = looking_goes_on m id looked looks_there step.goes_on }
+    steps_then = record { shows = shows_store m d e c failed st step.shows looks (same_held m _ st looks_there.brings step.goes_on.kept.latches_fit) uses; goes_on = looking_goes_on m id looked looks_there step.goes_on }
 
     pub looked_only : (new : Machine) × PageComes id m new × MayStep e then new
     looked_only = (looked, looks_there, steps_then)
@@ -127,7 +128,7 @@ module _ (d e : DiskModel) (c : RunningCore) (m : Machine) (id : ℕ) (step : Ma
         ∙ ap (λ (l : List Use). with_uses l (with_disk m.store m.files m.clock m)) (kept.1 ∙ sym step.shows.uses)
 
     pub shows_still : ShowsMachine e then m
-    shows_still = subst (λ (x : Machine). ShowsMachine e then x) same_machine (shows_store m d e c failed st step.shows looks uses)
+    shows_still = subst (λ (x : Machine). ShowsMachine e then x) same_machine (shows_store m d e c failed st step.shows looks (ap (λ (s : StoreState). modes (with_disk s m.files m.clock m)) (kept.0 ∙ sym step.shows.store)) uses)
 
     stays_so : MayStep e then m
     stays_so = record { shows = shows_still; goes_on = step.goes_on }

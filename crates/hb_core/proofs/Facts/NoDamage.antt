@@ -134,7 +134,7 @@ module _ (m : Machine) (files : Files) (actor : ℕ) (may : IsActor actor) (fit 
 
   -- the page that a walk holds
   walk_page : (held : ℕ) → walk_held (m.activity actor) ≡ Some held → (page : LivePage) × (live_here m.store held ≡ Some page)
-  walk_page held is = let one = fit.walking actor held may is in (one.0, ap if_live one.1)
+  walk_page held is = let one = fit.walking actor held is in (one.0, ap if_live one.1)
 
   -- the child at the point, of a parent that a poster holds
   at_parent : (job : Job) (parent : ℕ) (wanted : Wanted) (asked : AskedBox) (page : LivePage) → live_here m.store parent ≡ Some page

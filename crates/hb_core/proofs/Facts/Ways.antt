@@ -9,11 +9,10 @@ use Rattle.hb_core.proofs.Facts.StepKinds.{each_kind, FlushesMore, ready_kind}
 use Rattle.hb_core.specs.Acting.{MeetsBadPage}
 use Rattle.hb_core.specs.Fetching.{MustStay}
 use Rattle.hb_core.specs.Forcing.{BeginsTurn, FailsToWrite, ForcesAll, StaysSo, WritesOldest}
-use Rattle.hb_core.specs.Laws.{OrderGrows, OthersStay}
+use Rattle.hb_core.specs.Laws.{OrderGrows}
 use Rattle.hb_core.specs.Machines.{Machine, with_activity}
 use Rattle.hb_core.specs.Performing.{Performs, given_by, outcome_of, MayDo}
 use Rattle.hb_core.specs.Steps.{Works, StepsTo}
-use Rattle.hb_latch.specs.Tables.{LatchTable, mode_at}
 use Rattle.hb_set.specs.Order.{Entry}
 use Rattle.hb_store.specs.States.{StoreState, in_memory}
 use Rattle.hb_set.specs.declared.scripts.Answered.{Answered}
@@ -37,7 +36,6 @@ pub record KeepsAllButDisk (m new : Machine) : Type 0 where
   pub lines : new.lines ≡ m.lines
   pub answered : new.answered ≡ m.answered
   pub activity : new.activity ≡ m.activity
-  pub latches : new.latches ≡ m.latches
   pub jobs : new.jobs ≡ m.jobs
   pub order : new.order ≡ m.order
   pub memory : (id : ℕ) (page : Page) → MustStay m id → in_memory m.store id ≡ Some page → in_memory new.store id ≡ Some page
@@ -57,16 +55,16 @@ module _ (m : Machine) (actor : ℕ) (outcome : Outcome) (new : Machine) where
   same_answers fetched deed performs none = performs.answered ∙ ap (λ (l : List Answered). m.answered ++ l) none ∙ append-nil m.answered
 
   pub stays_so : (said : Outcome) → StaysSo m said outcome new → KeepsAllButDisk m new
-  stays_so said (says, is) = keeps_by m m new is (record { lines = refl; answered = refl; activity = refl; latches = refl; jobs = refl; order = refl; memory = λ id page must there. there })
+  stays_so said (says, is) = keeps_by m m new is (record { lines = refl; answered = refl; activity = refl; jobs = refl; order = refl; memory = λ id page must there. there })
 
   pub fails_so : {most : ℕ} → FailsToWrite m most outcome new → KeepsAllButDisk m new
-  fails_so fails = keeps_by m _ new fails.stops (record { lines = refl; answered = refl; activity = refl; latches = refl; jobs = refl; order = refl; memory = λ id page must there. there })
+  fails_so fails = keeps_by m _ new fails.stops (record { lines = refl; answered = refl; activity = refl; jobs = refl; order = refl; memory = λ id page must there. there })
 
   pub flushes_so : {page : ℕ} {due : Outcome} → WritesOldest m page due outcome new → KeepsAllButDisk m new
-  flushes_so well = keeps_by m _ new well.leaves (record { lines = refl; answered = refl; activity = refl; latches = refl; jobs = refl; order = refl; memory = λ id page must there. there })
+  flushes_so well = keeps_by m _ new well.leaves (record { lines = refl; answered = refl; activity = refl; jobs = refl; order = refl; memory = λ id page must there. there })
 
   pub turns_so : {due : Outcome} → BeginsTurn m due outcome new → KeepsAllButDisk m new
-  turns_so turns = keeps_by m _ new turns.leaves (record { lines = refl; answered = refl; activity = refl; latches = refl; jobs = refl; order = refl; memory = λ id page must there. there })
+  turns_so turns = keeps_by m _ new turns.leaves (record { lines = refl; answered = refl; activity = refl; jobs = refl; order = refl; memory = λ id page must there. there })
 
   pub more_so : FlushesMore m outcome new → KeepsAllButDisk m new
   more_so (none, inl (page, oldest, due, quiet, well)) = flushes_so well
@@ -74,11 +72,11 @@ module _ (m : Machine) (actor : ℕ) (outcome : Outcome) (new : Machine) where
   more_so (none, inr (inr (calls, left, fails))) = fails_so fails
 
   pub forces_so : (said : Outcome) → ForcesAll m said outcome new → KeepsAllButDisk m new
-  forces_so said (inl (says, is)) = keeps_by m _ new is (record { lines = refl; answered = refl; activity = refl; latches = refl; jobs = refl; order = refl; memory = λ id page must there. there })
+  forces_so said (inl (says, is)) = keeps_by m _ new is (record { lines = refl; answered = refl; activity = refl; jobs = refl; order = refl; memory = λ id page must there. there })
   forces_so said (inr badly) = fails_so badly.1
 
   pub meets_so : MeetsBadPage m actor outcome new → KeepsAllButDisk m new
-  meets_so meets = keeps_by m _ new meets.stops (record { lines = refl; answered = refl; activity = refl; latches = refl; jobs = refl; order = refl; memory = λ id page must there. meets.brings.stays id must (subst (λ (o : Option Page). IsSome o) (sym there) refl) ∙ there })
+  meets_so meets = keeps_by m _ new meets.stops (record { lines = refl; answered = refl; activity = refl; jobs = refl; order = refl; memory = λ id page must there. meets.brings.stays id must (subst (λ (o : Option Page). IsSome o) (sym there) refl) ∙ there })
 
   same : (said : Outcome) → StaysSo m said outcome new → HasWay m actor outcome new
   same said so = inl (stays_so said so)
@@ -106,15 +104,12 @@ way_of m actor outcome new step =
 
 -- ---- so other actors stay where they are
 
-pub others_stay : OthersStay
-others_stay m actor outcome new step other another = by (way_of m actor outcome new step)
+pub others_stand : (m : Machine) (actor : ℕ) (outcome : Outcome) (new : Machine) → StepsTo m actor outcome new → (other : ℕ) → other ≢ actor → new.activity other ≡ m.activity other
+others_stand m actor outcome new step other another = by (way_of m actor outcome new step)
   where
-    by : HasWay m actor outcome new → (new.activity other ≡ m.activity other) × ((page : ℕ) → mode_at new.latches other page ≡ mode_at m.latches other page)
-    by (inl keeps) = (ap (λ (all : ℕ → Activity). all other) keeps.activity, λ page. ap (λ (table : LatchTable). mode_at table other page) keeps.latches)
-    by (inr (fetched, deed, performs)) = (
-      others_next actor deed.next m.activity new.activity performs.activity other another,
-      λ page. performs.latches.others other page another,
-    )
+    by : HasWay m actor outcome new → new.activity other ≡ m.activity other
+    by (inl keeps) = ap (λ (all : ℕ → Activity). all other) keeps.activity
+    by (inr (fetched, deed, performs)) = others_next actor deed.next m.activity new.activity performs.activity other another
 
 -- ---- and the order grows by one entry at most
 

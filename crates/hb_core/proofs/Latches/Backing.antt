@@ -29,10 +29,9 @@ use Rattle.hb_core.specs.Asking.{HasWayFree, looked_live, wanted_by}
 use Rattle.hb_core.specs.Fetching.{Brings}
 use Rattle.hb_core.specs.Keeps.{HoldsPagesOfFile, LatchesFit}
 use Rattle.hb_core.specs.KeptMerges.{IsMerging}
-use Rattle.hb_core.specs.Machines.{Machine, with_disk, sight}
+use Rattle.hb_core.specs.Machines.{Machine, modes, with_disk, sight}
 use Rattle.hb_core.specs.Performing.{MayDo, latches_held, mode_among}
 use Rattle.hb_core.specs.Rows.{Row, RowAt}
-use Rattle.hb_latch.specs.Tables.{mode_at}
 use Rattle.hb_space.specs.Actors.{IsActor}
 use Rattle.hb_ops.specs.Extracting.{fresh_page, source_page}
 use Rattle.hb_ops.specs.Files.{if_live}
@@ -55,7 +54,7 @@ pub record IsWantedFreely (m : Machine) (actor page : ℕ) (mode : Mode) : Type 
   pub free : HasWayFree m actor
 
 abbrev pub ComesFrom : Machine → ℕ → ℕ → Mode → Type 0
-ComesFrom m actor page mode = (mode_at m.latches actor page ≡ Some mode) ⊎ IsWantedFreely m actor page mode ⊎ IsAnew m page
+ComesFrom m actor page mode = (modes m actor page ≡ Some mode) ⊎ IsWantedFreely m actor page mode ⊎ IsAnew m page
 
 pub record IsBacked (m : Machine) (actor : ℕ) (st : StoreState) (page : ℕ) (mode : Mode) : Type 0 where
   pub from : ComesFrom m actor page mode
@@ -134,14 +133,14 @@ module _ (m : Machine) (actor : ℕ) (may : ℕ → Type 0) (fetched : StoreStat
   backed_deed deed other is backed = subst (λ (d : Deed). BackedIn m actor new d.next) (sym is) backed
 
   -- what was held stays in use where nothing is done
-  pub held_backed : (page : ℕ) (mode : Mode) → new ≡ fetched → mode_at m.latches actor page ≡ Some mode → IsBacked m actor new page mode
+  pub held_backed : (page : ℕ) (mode : Mode) → new ≡ fetched → modes m actor page ≡ Some mode → IsBacked m actor new page mode
   held_backed page mode none holds =
       let used = fit.used actor page mode holds in
       let there : IsSome (in_memory m.store page) = subst (λ (o : Option Page). IsSome o) (sym used.1) refl in
       record { from = inl holds; live = used.0; there = ap (λ (st : StoreState). in_memory st page) none ∙ brings.stays page (inl (actor, mode, holds)) there ∙ used.1 }
 
-  pub own_mode : (activity : Activity) (page : ℕ) (mode : Mode) → m.activity actor ≡ activity → mode_among page (latches_held m.store activity) ≡ Some mode → mode_at m.latches actor page ≡ Some mode
-  own_mode activity page mode is among = fit.exact actor page latches ∙ subst (λ (a : Activity). mode_among page (latches_held m.store a) ≡ Some mode) (sym is) among
+  pub own_mode : (activity : Activity) (page : ℕ) (mode : Mode) → m.activity actor ≡ activity → mode_among page (latches_held m.store activity) ≡ Some mode → modes m actor page ≡ Some mode
+  own_mode activity page mode is among = subst (λ (a : Activity). mode_among page (latches_held m.store a) ≡ Some mode) (sym is) among
 
   -- the page that was latched
   module _ (wanted : Wanted) (page : LivePage) (wants : wanted_by m actor ≡ Some wanted) (live : if_live (in_memory fetched wanted.page) ≡ Some page) (level : page.level ≡ wanted.level) (none : new ≡ fetched) where

@@ -2,20 +2,22 @@
 use Rattle.std.proofs.Common.{◌≡◌, ◌≢◌, inl, inr, ℕ, Option, Some, IfSome, IsTrue, sym, subst}
 use Rattle.hb_latch.specs.declared.modes.Mode.{Mode}
 use Rattle.hb_latch.specs.Modes.{goes_beside}
-use Rattle.hb_latch.specs.Tables.{IsGrantable, mode_at}
+use Rattle.hb_latch.specs.Tables.{IsGrantable}
 use Rattle.hb_activity.specs.declared.wanting.Wanted.{Wanted}
 use Rattle.hb_lemmas.proofs.Options.{at_value}
 use Rattle.hb_core.proofs.Latches.Backing.{ComesFrom}
 use Rattle.hb_core.specs.Keeps.{LatchesFit}
-use Rattle.hb_core.specs.Machines.{Machine}
+use Rattle.hb_core.specs.Machines.{Machine, modes}
 
-module _ (m : Machine) (actor : ℕ) (fit : LatchesFit m) where
-  pub beside_from : (other page : ℕ) (mode held : Mode) → other ≢ actor → ComesFrom m actor page mode → mode_at m.latches other page ≡ Some held → IsTrue (goes_beside mode held)
-  beside_from other page mode held another (inl own_before) holds =
-      let both = fit.compatible actor other page (λ same. another (sym same)) in
-      at_value (mode_at m.latches other page) (λ (held : Mode). IsTrue (goes_beside mode held)) held holds (at_value (mode_at m.latches actor page) (λ (mode : Mode). IfSome (mode_at m.latches other page) (λ held. IsTrue (goes_beside mode held))) mode own_before both)
-  beside_from other page mode held another (inr (inl freely)) holds =
-      let grants : IsGrantable m.latches actor freely.wanted.page freely.wanted.mode = subst (λ (o : Option Wanted). IfSome o (λ wanted. IsGrantable m.latches actor wanted.page wanted.mode)) freely.wants freely.free in
-      let here : IfSome (mode_at m.latches other page) (λ held. IsTrue (goes_beside freely.wanted.mode held)) = subst (λ (n : ℕ). IfSome (mode_at m.latches other n) (λ held. IsTrue (goes_beside freely.wanted.mode held))) freely.page_is (grants other another) in
-      subst (λ (own : Mode). IsTrue (goes_beside own held)) freely.mode_is (at_value (mode_at m.latches other page) (λ (held : Mode). IsTrue (goes_beside freely.wanted.mode held)) held holds here)
-  beside_from other page mode held another (inr (inr anew)) holds = let used = fit.used other page held holds in absurd ((anew used.0 used.1).0 (inl (other, held, holds)))
+module _ (m : Machine) (fit : LatchesFit m) where
+  pub both_before : (actor other page : ℕ) (mode held : Mode) → actor ≢ other → modes m actor page ≡ Some mode → modes m other page ≡ Some held → IsTrue (goes_beside mode held)
+  both_before actor other page mode held apart first second =
+      at_value (modes m other page) (λ (held : Mode). IsTrue (goes_beside mode held)) held second (at_value (modes m actor page) (λ (mode : Mode). IfSome (modes m other page) (λ held. IsTrue (goes_beside mode held))) mode first (fit.compatible actor other page apart))
+
+  pub beside_from : (actor other page : ℕ) (mode held : Mode) → other ≢ actor → ComesFrom m actor page mode → modes m other page ≡ Some held → IsTrue (goes_beside mode held)
+  beside_from actor other page mode held another (inl own_before) holds = both_before actor other page mode held (λ same. another (sym same)) own_before holds
+  beside_from actor other page mode held another (inr (inl freely)) holds =
+      let grants : IsGrantable (modes m) actor freely.wanted.page freely.wanted.mode = subst (λ (o : Option Wanted). IfSome o (λ wanted. IsGrantable (modes m) actor wanted.page wanted.mode)) freely.wants freely.free in
+      let here : IfSome (modes m other page) (λ held. IsTrue (goes_beside freely.wanted.mode held)) = subst (λ (n : ℕ). IfSome (modes m other n) (λ held. IsTrue (goes_beside freely.wanted.mode held))) freely.page_is (grants other another) in
+      subst (λ (own : Mode). IsTrue (goes_beside own held)) freely.mode_is (at_value (modes m other page) (λ (held : Mode). IsTrue (goes_beside freely.wanted.mode held)) held holds here)
+  beside_from actor other page mode held another (inr (inr anew)) holds = let used = fit.used other page held holds in absurd ((anew used.0 used.1).0 (inl (other, held, holds)))

@@ -27,11 +27,9 @@ use Rattle.hb_core.specs.KeptPlaces.{AnswersAreSingle, OrderIsShort, RepliesStan
 use Rattle.hb_core.specs.KeptSearches.{SearchesAreExact}
 use Rattle.hb_search.specs.Searching.{StaysGathering}
 use Rattle.hb_core.specs.KeptSequence.{IsInSequence, LinesInSequence, awaited_number}
-use Rattle.hb_core.specs.Machines.{Machine}
-use Rattle.hb_core.specs.Performing.{latches_held, mode_among}
+use Rattle.hb_core.specs.Machines.{Machine, modes}
 use Rattle.hb_core.specs.SteppingLaws.{BeginningExists, BeginningKeeps, BeginningKeepsAll, IsBegun}
 use Rattle.hb_latch.specs.Modes.{goes_beside}
-use Rattle.hb_latch.specs.Tables.{latch_cmp, mode_at}
 use Rattle.hb_space.specs.Actors.{IsActor}
 use Rattle.hb_layout.specs.Limits.{IsLayout}
 use Rattle.hb_ops.specs.Files.{FileState, contents_of}
@@ -41,7 +39,7 @@ use Rattle.hb_pool.specs.Frames.{Use}
 use Rattle.hb_set.specs.Order.{Entry, IsLegalOrder, result_of}
 use Rattle.hb_store.specs.States.{IsStanding, new_state}
 use Rattle.hb_wal.specs.Log.{IsMarkedTo, IsNoLater, LogState, Waiting}
-use Rattle.hb_core.proofs.Machines.FramesKept.{frames_begun}
+use Rattle.hb_core.proofs.Machines.FramesKept.{frames_begun, none_latched}
 use Rattle.hb_core.proofs.Table.DeedKinds.{idle_kind}
 use Rattle.hb_core.proofs.Orders.ShortOrder.{AreOfTwo}
 use Rattle.hb_core.proofs.Orders.SingleAnswers.{AreToTwo}
@@ -113,8 +111,8 @@ module _ (m : Machine) (begun : IsBegun m) where
   no_answer : (number : ℕ) → IsTrue (is_answered number m.answered) → ⊥
   no_answer number has = cc (subst (λ (l : List Answered). IsTrue (is_answered number l)) begun.unanswered has)
 
-  no_mode : (actor page : ℕ) (mode : Mode) → mode_at m.latches actor page ≡ Some mode → ⊥
-  no_mode actor page mode some = let never : None ≡ Some mode = sym (begun.unlatched actor page) ∙ some in cc never
+  no_mode : (actor page : ℕ) (mode : Mode) → modes m actor page ≡ Some mode → ⊥
+  no_mode actor page mode some = let never : None ≡ Some mode = sym (none_latched m begun actor page) ∙ some in cc never
 
   no_group : m.store.log.groups ≡ []
   no_group = ap (λ (log : LogState). log.groups) begun.store.log
@@ -176,10 +174,9 @@ module _ (m : Machine) (begun : IsBegun m) where
 
   latches_begin : LatchesFit m
   latches_begin = record {
-    compatible = λ actor other page apart. subst (λ (o : Option Mode). IfSome o (λ mode. IfSome (mode_at m.latches other page) (λ held. IsTrue (goes_beside mode held)))) (sym (begun.unlatched actor page)) tt;
-    exact = λ actor page may. begun.unlatched actor page ∙ of_each (λ a. None ≡ mode_among page (latches_held m.store a)) (record { session = refl; poster = refl; consolidator = refl; flusher = refl }) actor;
+    compatible = λ actor other page apart. subst (λ (o : Option Mode). IfSome o (λ mode. IfSome (modes m other page) (λ held. IsTrue (goes_beside mode held)))) (sym (none_latched m begun actor page)) tt;
     used = λ actor page mode holds. absurd (no_mode actor page mode holds);
-    walking = λ actor held may walks. absurd (of_each _ (holds_or_not held) actor walks);
+    walking = λ actor held walks. absurd (of_each _ (holds_or_not held) actor walks);
   }
 
   walks_begin : WalksInSpace m
@@ -223,7 +220,6 @@ module _ (m : Machine) (begun : IsBegun m) where
     classes = λ actor. ap class_of (begun.idle actor) ∙ idle_kind (class_for actor);
     nobody_else = λ actor none. begun.idle actor ∙ ap idle_of (nobodys_kind actor none);
     latches_fit = latches_begin;
-    no_other_latches = λ actor page none. begun.unlatched actor page;
     box_locks_fit = λ actor other lock held apart is. absurd (no_lock actor lock is);
     searches_gather = of_each StaysGathering (record { session = tt; poster = tt; consolidator = tt; flusher = tt });
     walk_in_space = walks_begin;
@@ -278,7 +274,6 @@ fresh_machine s turn lines clock = record {
   lines = lines;
   answered = [];
   activity = λ actor. idle_of (class_for actor);
-  latches = map.empty;
   jobs = [];
   order = [];
   stop = None;
@@ -316,7 +311,6 @@ beginning_exists s turn lines clock sound layout few rising bodies fit = (
         lines_fit = fit;
         unanswered = refl;
         idle = λ actor. refl;
-        unlatched = λ actor page. map.get-empty latch_cmp (actor, page);
         no_job = refl;
         no_order = refl;
         runs = refl;

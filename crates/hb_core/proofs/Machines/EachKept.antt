@@ -14,7 +14,7 @@ use Rattle.hb_core.proofs.Machines.RunsKept.{runs_stay}
 use Rattle.hb_core.proofs.Orders.ShortOrder.{order_stays_short}
 use Rattle.hb_core.proofs.Orders.SingleAnswers.{answers_stay_single}
 use Rattle.hb_core.proofs.Searches.GatheringKept.{searches_gather_still}
-use Rattle.hb_core.proofs.Facts.StillThere.{nobody_else_comes, nobody_else_latches}
+use Rattle.hb_core.proofs.Facts.StillThere.{nobody_else_comes}
 use Rattle.hb_core.proofs.Orders.Sequences.{sequence_stays}
 use Rattle.hb_core.proofs.Walks.WalksKept.{walks_stay_in_space}
 use Rattle.hb_core.proofs.Walks.WorkersKept.{workers_stand_still}
@@ -48,7 +48,6 @@ machine_stays_kept laws m actor outcome new may keeps step = record {
   classes = classes_stay m actor outcome new may keeps step;
   nobody_else = nobody_else_comes m actor outcome new may keeps.nobody_else step;
   latches_fit = laws.latches m actor outcome new may keeps.latches_fit keeps.pages_of_file step;
-  no_other_latches = nobody_else_latches m actor outcome new may keeps.no_other_latches step;
   box_locks_fit = box_locks_stay_fit m actor outcome new keeps step;
   searches_gather = searches_gather_still m actor outcome new keeps step;
   walk_in_space = walks_stay_in_space m actor outcome new may keeps.latches_fit keeps.pages_of_file keeps.nobody_else keeps.walk_in_space step;

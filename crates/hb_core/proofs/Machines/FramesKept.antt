@@ -1,5 +1,6 @@
 -- Every step keeps that the frames are those of the pages in memory, and that a page is pinned as many times as actors have latched it.
-use Rattle.std.proofs.Common.{◌≡◌, inl, inr, ℕ, ◌≤◌, List, [], ◌++◌, Option, Some, None, IfSome, IsSome, refl, sym, ap, subst, ◌∙◌, arith}
+use Rattle.std.proofs.Common.{◌≡◌, inl, inr, ℕ, ◌≤◌, List, [], ◌++◌, Some, None, IsSome, refl, sym, ap, subst, ◌∙◌, arith}
+use Rattle.hb_core.proofs.Memory.BroughtPages.{same_held}
 use Rattle.std.specs.List.{count_by}
 use Rattle.std.specs.Option.{is_some}
 use Rattle.std.proofs.lemmas.Option.{none-some}
@@ -19,29 +20,32 @@ use Rattle.hb_core.specs.Acting.{Abandons, DoesRow, MeetsBadPage}
 use Rattle.hb_core.specs.Asking.{HasWayFree, wanted_by}
 use Rattle.hb_core.specs.Forcing.{BeginsTurn, FailsToWrite, ForcesAll, HasDirtyPage, HasOldTurn, StaysSo, WritesOldest}
 use Rattle.hb_core.specs.KeptMachine.{MachineKeeps}
-use Rattle.hb_core.specs.KeptMerges.{NamesKnown, merging_at}
-use Rattle.hb_core.specs.Machines.{Machine}
+use Rattle.hb_core.specs.Machines.{Machine, modes}
+use Rattle.hb_core.proofs.Facts.StillThere.{other_modes}
+use Rattle.hb_latch.specs.Tables.{HeldModes}
+use Rattle.hb_core.proofs.Table.GivenUp.{idle_latches}
+use Rattle.hb_core.specs.KeptFits.{class_for}
 use Rattle.hb_core.specs.Performing.{Performs, PerformsAsItIs, latches_held, mode_among}
 use Rattle.hb_core.specs.Steps.{StepsTo, Works}
 use Rattle.hb_core.specs.SteppingLaws.{IsBegun}
-use Rattle.hb_core.specs.Using.{FramesFit, page_wanted, pages_of, use_done, use_held}
+use Rattle.hb_core.specs.Using.{FramesFit, holders, page_wanted, pages_of, use_done, use_held}
 use Rattle.hb_core.proofs.Latches.MergerBacked.{every_row_backed}
 use Rattle.hb_core.proofs.Machines.FlushedFrames.{cleaned_tied, tied_again}
 use Rattle.hb_core.proofs.Machines.HoldersMoved.{IsLatched, holders_moved, none_holds}
-use Rattle.hb_core.proofs.Machines.LatchesApart.{AreOnce, known_apart, latches_once, none_once, puts_apart}
+use Rattle.hb_core.proofs.Machines.LatchesApart.{AreOnce, known_apart, latches_differ, none_different, puts_apart}
 use Rattle.hb_core.proofs.Machines.PinCounts.{IsSingle, cleaned_pins, one_if}
 use Rattle.hb_core.proofs.Machines.PinsFollow.{AreThere, PinsMore, came_stays, deed_pins, found_counted, more_number, none_more, times}
 use Rattle.hb_core.proofs.Table.NextPlaces.{nothing_given_up, place_after}
 use Rattle.hb_core.proofs.Facts.StepKinds.{FlushesMore, each_kind_so, ready_kind}
-use Rattle.hb_core.proofs.Walks.WalksKept.{walks_stay_in_space}
+use Rattle.hb_core.proofs.Walks.WalksKept.{placed_in_space}
 use Rattle.hb_space.specs.Actors.{IsActor}
 use Rattle.hb_core.proofs.Facts.Ways.{own_next}
 
 abbrev FitsNow : Machine → Type 0
-FitsNow m = FramesFit m.store m.uses m.latches
+FitsNow m = FramesFit m.store m.uses (modes m)
 
-module _ (m : Machine) (actor : ℕ) (outcome : Outcome) (new : Machine) (may : IsActor actor) (keeps : MachineKeeps m) where
-  fit : FramesFit m.store m.uses m.latches
+module _ (m : Machine) (actor : ℕ) (outcome : Outcome) (new : Machine) (may : IsActor actor) (keeps : MachineKeeps m) (step : StepsTo m actor outcome new) where
+  fit : FramesFit m.store m.uses (modes m)
   fit = keeps.frames_fit
 
   single : IsSingle m.uses
@@ -51,10 +55,8 @@ module _ (m : Machine) (actor : ℕ) (outcome : Outcome) (new : Machine) (may : 
   abbrev held : List Latch
   held = latches_held m.store (m.activity actor)
 
-  held_once : (q : ℕ) → times q (pages_of held) ≡ one_if (IsLatched m.latches actor q)
-  held_once q =
-      latches_once m.store (m.activity actor) (keeps.walk_in_space.merging actor) (known_apart m keeps.room_known actor) q
-      ∙ ap (λ (o : Option Mode). one_if (is_some o)) (sym (keeps.latches_fit.exact actor q may))
+  held_once : (q : ℕ) → times q (pages_of held) ≡ one_if (IsLatched (modes m) actor q)
+  held_once q = (latches_differ m.store (m.activity actor) (keeps.walk_in_space.merging actor) (known_apart m keeps.room_known actor)).once q
 
   -- ---- what leaves pins and latches
 
@@ -91,7 +93,8 @@ module _ (m : Machine) (actor : ℕ) (outcome : Outcome) (new : Machine) (may : 
   meets_so : MeetsBadPage m actor outcome new → FitsNow new
   meets_so meets = as_before _ meets.stops (record {
     tied = meets.tied;
-    pins = λ q. (came_stays (wanted_by m actor) m.store.meta m.uses meets.came single meets.came_is).pins q ∙ fit.pins q;
+    pins = λ q. (came_stays (wanted_by m actor) m.store.meta m.uses meets.came single meets.came_is).pins q ∙ fit.pins q
+        ∙ ap (λ (held : HeldModes). holders held q) (sym (same_held m _ meets.fetched meets.brings keeps.latches_fit));
   })
 
   -- ---- a deed
@@ -119,8 +122,8 @@ module _ (m : Machine) (actor : ℕ) (outcome : Outcome) (new : Machine) (may : 
           let moved = deed_pins deed.op fetched extra (pages_of held) (pages_of after) m.uses performs.came new.uses more is (are_there once live) q in
           let was = fit.pins q in
           let before = held_once q in
-          let now : times q (pages_of after) ≡ one_if (IsLatched new.latches actor q) = once q ∙ ap (λ (o : Option Mode). one_if (is_some o)) (sym (performs.latches.own q)) in
-          let holding = holders_moved actor m.latches new.latches may (λ other page apart. performs.latches.others other page apart) q in
+          let now : times q (pages_of after) ≡ one_if (IsLatched (modes new) actor q) = once q ∙ ap (λ (a : Activity). one_if (is_some (mode_among q (latches_held new.store a)))) (sym (own_next actor deed.next m.activity new.activity performs.activity)) in
+          let holding = holders_moved actor (modes m) (modes new) may (λ other page apart. other_modes m actor outcome new may keeps.latches_fit keeps.pages_of_file step other apart page) q in
           let changes = holding.0 in
           let least = holding.1 in
           omega (arith, moved, was, before, now, changes, least);
@@ -128,7 +131,7 @@ module _ (m : Machine) (actor : ℕ) (outcome : Outcome) (new : Machine) (may : 
 
     -- one after which the actor holds nothing
     leaves_all : (latches_held new.store deed.next ≡ []) → performs.pins ≡ pages_of held → PinsMore [] m.uses performs.came → FitsNow new
-    leaves_all none pins more = deed_so [] pins more (none_once after none) (λ page mode is. absurd (none-some mode (sym (ap (mode_among page) none) ∙ is)))
+    leaves_all none pins more = deed_so [] pins more (none_different after none).once (λ page mode is. absurd (none-some mode (sym (ap (mode_among page) none) ∙ is)))
 
   as_it_is : (deed : Deed) → ((st : StoreState) → latches_held st deed.next ≡ []) → PerformsAsItIs m actor deed outcome new → FitsNow new
   as_it_is deed none (performs, came, pins) = leaves_all m.store deed performs (none new.store) pins (subst (PinsMore [] m.uses) (sym came) (none_more m.uses single))
@@ -138,37 +141,38 @@ module _ (m : Machine) (actor : ℕ) (outcome : Outcome) (new : Machine) (may : 
       let stay = came_stays (wanted_by m actor) m.store.meta m.uses gives.performs.came single gives.came in
       leaves_all gives.fetched _ gives.performs ((nothing_given_up gives.why (m.activity actor)).latches new.store) gives.pins (record { single = stay.single; pins = λ q. let same = stay.pins q in omega (arith, same) })
 
-  module _ (step : StepsTo m actor outcome new) where
-    does_so : HasWayFree m actor → DoesRow m actor outcome new → FitsNow new
-    does_so free acts =
-        let deed = acts.deed in
-        let place = place_after m actor acts.fetched (wanted_by m actor) deed refl acts.row in
-        let walks = walks_stay_in_space m actor outcome new may keeps.latches_fit keeps.pages_of_file keeps.nobody_else keeps.walk_in_space step in
-        let merging : IfSome (merging_at deed.next) (NamesKnown new.store) = subst (λ (a : Activity). IfSome (merging_at a) (NamesKnown new.store)) (own_next actor deed.next m.activity new.activity acts.performs.activity) (walks.merging actor) in
-        let backed = every_row_backed m actor _ acts.fetched new.store may keeps.latches_fit keeps.pages_of_file free acts.brings (wanted_by m actor) deed refl acts.performs.store acts.row in
-        deed_so acts.fetched deed acts.performs (page_wanted (wanted_by m actor)) acts.pins
-        (subst (PinsMore (page_wanted (wanted_by m actor)) m.uses) (sym acts.came) (more_number _ m.store.meta (wanted_by m actor) m.uses single))
-        (latches_once new.store deed.next merging (puts_apart m actor _ acts.fetched may keeps.latches_fit keeps.pages_of_file acts.brings deed place))
-        (λ page mode is. let its = backed.latches page mode is in has_value (in_memory new.store page) _ its.there)
+  does_so : HasWayFree m actor → DoesRow m actor outcome new → FitsNow new
+  does_so free acts =
+      let deed = acts.deed in
+      let place = place_after m actor acts.fetched (wanted_by m actor) deed refl acts.row in
+      let stands = placed_in_space m actor _ acts.fetched may keeps.latches_fit keeps.pages_of_file keeps.walk_in_space acts.brings deed new.store acts.performs.store place in
+      let backed = every_row_backed m actor _ acts.fetched new.store may keeps.latches_fit keeps.pages_of_file free acts.brings (wanted_by m actor) deed refl acts.performs.store acts.row in
+      deed_so acts.fetched deed acts.performs (page_wanted (wanted_by m actor)) acts.pins
+      (subst (PinsMore (page_wanted (wanted_by m actor)) m.uses) (sym acts.came) (more_number _ m.store.meta (wanted_by m actor) m.uses single))
+      (latches_differ new.store deed.next stands.merging (puts_apart m actor _ acts.fetched may keeps.latches_fit keeps.pages_of_file acts.brings deed place)).once
+      (λ page mode is. let its = backed.latches page mode is in has_value (in_memory new.store page) _ its.there)
 
-    worked : Works m actor outcome new → FitsNow new
-    worked (inl (by, way, so)) = stays_so (outcomes.Blocked by) so
-    worked (inr (inl (free, unready, inl (waits, force)))) = forces_so outcomes.Helped force
-    worked (inr (inl (free, unready, inr (none, rest)))) = ready_kind m outcome new (FitsNow new) none more_so rest
-    worked (inr (inr (free, ready, inl acts))) = does_so free acts
-    worked (inr (inr (free, ready, inr (inl gives)))) = gives_so gives
-    worked (inr (inr (free, ready, inr (inr meets)))) = meets_so meets
+  worked : Works m actor outcome new → FitsNow new
+  worked (inl (by, way, so)) = stays_so (outcomes.Blocked by) so
+  worked (inr (inl (free, unready, inl (waits, force)))) = forces_so outcomes.Helped force
+  worked (inr (inl (free, unready, inr (none, rest)))) = ready_kind m outcome new (FitsNow new) none more_so rest
+  worked (inr (inr (free, ready, inl acts))) = does_so free acts
+  worked (inr (inr (free, ready, inr (inl gives)))) = gives_so gives
+  worked (inr (inr (free, ready, inr (inr meets)))) = meets_so meets
 
-pub frames_kept : (m : Machine) (actor : ℕ) (outcome : Outcome) (new : Machine) → IsActor actor → MachineKeeps m → StepsTo m actor outcome new → FramesFit new.store new.uses new.latches
+pub frames_kept : (m : Machine) (actor : ℕ) (outcome : Outcome) (new : Machine) → IsActor actor → MachineKeeps m → StepsTo m actor outcome new → FramesFit new.store new.uses (modes new)
 frames_kept m actor outcome new may keeps step =
     each_kind_so m actor outcome new (FitsNow new)
-    (λ said quiet so. stays_so m actor outcome new may keeps said so)
-    (λ said quiet force. forces_so m actor outcome new may keeps said force)
-    (more_so m actor outcome new may keeps)
-    (λ deed outright performs. as_it_is m actor outcome new may keeps deed outright.latches performs)
+    (λ said quiet so. stays_so m actor outcome new may keeps step said so)
+    (λ said quiet force. forces_so m actor outcome new may keeps step said force)
+    (more_so m actor outcome new may keeps step)
+    (λ deed outright performs. as_it_is m actor outcome new may keeps step deed outright.latches performs)
     (worked m actor outcome new may keeps step)
     step
 
--- and where no step was taken
-pub frames_begun : (m : Machine) → IsBegun m → FramesFit m.store m.uses m.latches
-frames_begun m begun = record { tied = begun.tied; pins = λ id. begun.unpinned id ∙ sym (none_holds m.latches id (λ actor. begun.unlatched actor id)) }
+-- and where no step was taken, and so nobody holds a page
+pub none_latched : (m : Machine) → IsBegun m → (actor page : ℕ) → modes m actor page ≡ None
+none_latched m begun actor page = ap (mode_among page) (ap (latches_held m.store) (begun.idle actor) ∙ idle_latches (class_for actor) m.store)
+
+pub frames_begun : (m : Machine) → IsBegun m → FramesFit m.store m.uses (modes m)
+frames_begun m begun = record { tied = begun.tied; pins = λ id. begun.unpinned id ∙ sym (none_holds (modes m) id (λ actor. none_latched m begun actor id)) }

@@ -5,7 +5,7 @@ use Rattle.std.specs.Option.{is_some}
 use Rattle.std.proofs.lemmas.List.Sums.{sum_by-cons}
 use Rattle.hb_lemmas.proofs.Booleans.{if_same}
 use Rattle.hb_latch.specs.declared.modes.Mode.{Mode}
-use Rattle.hb_latch.specs.Tables.{LatchTable, mode_at}
+use Rattle.hb_latch.specs.Tables.{HeldModes}
 use Rattle.hb_core.specs.Using.{actors, holders}
 use Rattle.hb_core.proofs.Machines.PinCounts.{one_if}
 use Rattle.hb_core.proofs.Machines.PinsFollow.{times}
@@ -70,17 +70,17 @@ module _ (actor : ℕ) (p r : ℕ → Bool) (others : (other : ℕ) → other �
       one
 
 -- Of the actors that have latched a page all but this one are the same.
-abbrev pub IsLatched : LatchTable → ℕ → ℕ → Bool
-IsLatched table actor q = is_some (mode_at table actor q)
+abbrev pub IsLatched : HeldModes → ℕ → ℕ → Bool
+IsLatched modes actor q = is_some (modes actor q)
 
-pub holders_moved : (actor : ℕ) (old new : LatchTable) → IsActor actor → ((other page : ℕ) → other ≢ actor → mode_at new other page ≡ mode_at old other page)
+pub holders_moved : (actor : ℕ) (old new : HeldModes) → IsActor actor → ((other page : ℕ) → other ≢ actor → new other page ≡ old other page)
     → (q : ℕ) → (holders new q + one_if (IsLatched old actor q) ≡ holders old q + one_if (IsLatched new actor q)) × (one_if (IsLatched old actor q) ≤ holders old q)
 holders_moved actor old new may others q =
-    one_changes actor (λ a. is_some (mode_at old a q)) (λ a. is_some (mode_at new a q)) (λ other apart. ap (λ (o : Option Mode). is_some o) (others other q apart)) actors (once actor may)
+    one_changes actor (λ a. is_some (old a q)) (λ a. is_some (new a q)) (λ other apart. ap (λ (o : Option Mode). is_some o) (others other q apart)) actors (once actor may)
 
 -- nobody has latched it
-pub none_holds : (table : LatchTable) (q : ℕ) → ((actor : ℕ) → mode_at table actor q ≡ None) → holders table q ≡ 0
-none_holds table q none = none_of (λ a. is_some (mode_at table a q)) (λ a. ap (λ (o : Option Mode). is_some o) (none a)) actors
+pub none_holds : (modes : HeldModes) (q : ℕ) → ((actor : ℕ) → modes actor q ≡ None) → holders modes q ≡ 0
+none_holds modes q none = none_of (λ a. is_some (modes a q)) (λ a. ap (λ (o : Option Mode). is_some o) (none a)) actors
   where
     none_of : (p : ℕ → Bool) → ((a : ℕ) → p a ≡ false) → (all : List ℕ) → count_by p all ≡ 0
     none_of p off [] = refl

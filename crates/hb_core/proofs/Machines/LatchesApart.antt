@@ -1,5 +1,5 @@
 -- The latches of an activity are on different pages, so that a page is among theirs once where it is latched, and else not.
-use Rattle.std.proofs.Common.{◌≡◌, ◌⊎◌, inl, inr, ℕ, ◌+◌, ◌==◌, true, false, cond, List, [], ◌∷◌, Option, Some, None, IfSome, refl, sym, ap, subst, ◌∙◌, arith}
+use Rattle.std.proofs.Common.{◌≡◌, ◌≢◌, ◌⊎◌, inl, inr, ℕ, zero, suc, ◌+◌, ◌==◌, true, false, cond, List, [], ◌∷◌, Option, Some, None, IfSome, refl, sym, ap, subst, ◌∙◌, arith}
 use Rattle.std.specs.Option.{is_some}
 use Rattle.std.proofs.lemmas.Bool.{cases_Bool, eqb-false, eqb-true}
 use Rattle.std.proofs.lemmas.Option.{none-some, same_Some}
@@ -25,6 +25,7 @@ use Rattle.hb_core.specs.Keeps.{HasRoomFor, HoldsPagesOfFile, KnowsRoom, Latches
 use Rattle.hb_core.specs.KeptMerges.{NamesKnown, PairHeld, merging_at}
 use Rattle.hb_core.specs.Machines.{Machine, live_here}
 use Rattle.hb_core.specs.Performing.{latches_held, mode_among}
+use Rattle.hb_core.specs.Moving.{AreApart}
 use Rattle.hb_core.specs.Using.{pages_of}
 use Rattle.hb_core.proofs.Machines.PinCounts.{one_if}
 use Rattle.hb_core.proofs.Machines.PinsFollow.{times}
@@ -34,8 +35,16 @@ use Rattle.hb_core.proofs.Table.NextPlaces.{HasPlace, PartsFull, now}
 use Rattle.hb_space.specs.Actors.{IsActor}
 use Rattle.hb_store.specs.States.{StoreState, in_memory}
 
+-- a page is among theirs once where it is latched, and else not; and so they are on different pages
 abbrev pub AreOnce : List Latch → Type 0
 AreOnce latches = (q : ℕ) → times q (pages_of latches) ≡ one_if (is_some (mode_among q latches))
+
+pub record AreDifferent (latches : List Latch) : Type 0 where
+  pub apart : AreApart latches
+  pub once : AreOnce latches
+
+pub none_different : (latches : List Latch) → latches ≡ [] → AreDifferent latches
+none_different latches none = subst AreDifferent (sym none) (record { apart = λ i j d low high. absurd (omega (arith, high)); once = λ q. refl })
 
 one_once : (latch : Latch) → AreOnce (latch ∷ [])
 one_once latch q = elim (latch.page == q) as (λ b. one_if b + 0 ≡ one_if (is_some (cond b (Some latch.mode) None))) [
@@ -43,46 +52,54 @@ one_once latch q = elim (latch.page == q) as (λ b. one_if b + 0 ≡ one_if (is_
   | false ↦ refl
 ]
 
-two_once : (first second : Latch) → (first.page ≡ second.page → ⊥) → AreOnce (first ∷ second ∷ [])
-two_once first second apart q = if_same first.page q (λ b. one_if b + (one_if (second.page == q) + 0) ≡ one_if (is_some (cond b (Some first.mode) (mode_among q (second ∷ [])))))
-    (λ here. let off : one_if (second.page == q) ≡ 0 = if_same second.page q (λ b. one_if b ≡ 0) (λ there. absurd (apart (here ∙ sym there))) (λ _. refl) in omega (arith, off))
-    (λ _. let rest : one_if (second.page == q) + 0 ≡ one_if (is_some (mode_among q (second ∷ []))) = one_once second q in omega (arith, rest))
+one_different : (latch : Latch) → AreDifferent (latch ∷ [])
+one_different latch = record { apart = λ i j d low high. absurd (omega (arith, low, high)); once = one_once latch }
 
-walk_once : (held : Option ℕ) (page : Option LivePage) (mode : ℕ → Mode) → AreOnce (walk_latch held page mode)
-walk_once None page mode = λ q. refl
-walk_once (Some id) None mode = λ q. refl
-walk_once (Some id) (Some page) mode = one_once (latch_on id (mode page.level))
+two_different : (first second : Latch) → first.page ≢ second.page → AreDifferent (first ∷ second ∷ [])
+two_different first second apart = record { apart = pair; once = once }
+  where
+    pair : AreApart (first ∷ second ∷ [])
+    pair zero zero d low high = absurd (omega (arith, low))
+    pair zero (suc zero) d low high = apart
+    pair zero (suc (suc j)) d low high = absurd (omega (arith, high))
+    pair (suc i) j d low high = absurd (omega (arith, low, high))
 
--- the page to keep is below the parent
-pair_apart : (st : StoreState) (job : Job) (parent : ℕ) (known : List ℕ) (pair : PairHeld) → NamesKnown st (record { job = job; parent = parent; known = known; pair = Some pair }) → parent ≡ pair.keep → ⊥
-pair_apart st job parent known pair named same =
-    let kept = named.pair in
-    let one : named.page ≡ kept.page = same_Some named.page kept.page (sym named.live ∙ ap (live_here st) same ∙ kept.live) in
-    let level = kept.level in
-    let equal : named.page.level ≡ kept.page.level = ap (λ (page : LivePage). page.level) one in
-    omega (arith, level, equal)
+    once : AreOnce (first ∷ second ∷ [])
+    once q = if_same first.page q (λ b. one_if b + (one_if (second.page == q) + 0) ≡ one_if (is_some (cond b (Some first.mode) (mode_among q (second ∷ [])))))
+        (λ here. let off : one_if (second.page == q) ≡ 0 = if_same second.page q (λ b. one_if b ≡ 0) (λ there. absurd (apart (here ∙ sym there))) (λ _. refl) in omega (arith, off))
+        (λ _. let rest : one_if (second.page == q) + 0 ≡ one_if (is_some (mode_among q (second ∷ []))) = one_once second q in omega (arith, rest))
+
+walk_different : (held : Option ℕ) (page : Option LivePage) (mode : ℕ → Mode) → AreDifferent (walk_latch held page mode)
+walk_different None page mode = none_different [] refl
+walk_different (Some id) None mode = none_different [] refl
+walk_different (Some id) (Some page) mode = one_different (latch_on id (mode page.level))
+
+-- the page to keep is of another level than the parent, and so another page
+pub pair_apart : (st : StoreState) (job : Job) (parent : ℕ) (names : List ℕ) (pair : PairHeld) → NamesKnown st (record { job = job; parent = parent; known = names; pair = Some pair }) → parent ≢ pair.keep
+pair_apart st job parent names pair known same =
+    let one : known.page ≡ known.pair.page = same_Some known.page known.pair.page (sym known.live ∙ ap (live_here st) same ∙ known.pair.live) in
+    let levels = ap (λ (page : LivePage). page.level) one in
+    let below = known.pair.level in
+    omega (arith, levels, below)
 
 abbrev pub PutsApart : Activity → Type 0
 PutsApart activity = (line : Line) (source fresh : ℕ) → activity ≡ at.SessionPut line source fresh → source ≡ fresh → ⊥
 
-pub latches_once : (st : StoreState) (activity : Activity) → IfSome (merging_at activity) (NamesKnown st) → PutsApart activity → AreOnce (latches_held st activity)
-latches_once st (at.SessionWalk line held rest found) named apart = walk_once held _ _
-latches_once st (at.SessionSplit line held) named apart = one_once (latch_on held Exclusive)
-latches_once st (at.SessionPut line source fresh) named apart = two_once (latch_on source Exclusive) (latch_on fresh Exclusive) (apart line source fresh refl)
-latches_once st (at.PosterWalk job held) named apart = walk_once held _ _
-latches_once st (at.PosterChild job parent) named apart = one_once _
-latches_once st (at.PosterPromote job parent) named apart = one_once _
-latches_once st (at.PosterAgain job parent) named apart = one_once _
-latches_once st (at.ConsolidatorWalk job held) named apart = walk_once held _ _
-latches_once st (at.ConsolidatorScan job parent child) named apart = one_once _
-latches_once st (at.ConsolidatorTry job parent keep gone leaf) named apart = two_once _ _ (pair_apart st job parent (keep ∷ gone ∷ []) (record { keep = keep; gone = gone; leaf = Some leaf }) named)
-latches_once st (at.ConsolidatorPromote job parent keep gone) named apart = one_once _
-latches_once st (at.ConsolidatorKeep job parent keep gone) named apart = one_once _
-latches_once st (at.ConsolidatorDecide job parent keep gone) named apart = two_once _ _ (pair_apart st job parent (keep ∷ gone ∷ []) (record { keep = keep; gone = gone; leaf = None }) named)
-latches_once st other named apart = λ q. refl
-
-pub none_once : (latches : List Latch) → latches ≡ [] → AreOnce latches
-none_once latches none = subst AreOnce (sym none) (λ q. refl)
+pub latches_differ : (st : StoreState) (activity : Activity) → IfSome (merging_at activity) (NamesKnown st) → PutsApart activity → AreDifferent (latches_held st activity)
+latches_differ st (at.SessionWalk line held rest found) named apart = walk_different held _ _
+latches_differ st (at.SessionSplit line held) named apart = one_different (latch_on held Exclusive)
+latches_differ st (at.SessionPut line source fresh) named apart = two_different (latch_on source Exclusive) (latch_on fresh Exclusive) (apart line source fresh refl)
+latches_differ st (at.PosterWalk job held) named apart = walk_different held _ _
+latches_differ st (at.PosterChild job parent) named apart = one_different _
+latches_differ st (at.PosterPromote job parent) named apart = one_different _
+latches_differ st (at.PosterAgain job parent) named apart = one_different _
+latches_differ st (at.ConsolidatorWalk job held) named apart = walk_different held _ _
+latches_differ st (at.ConsolidatorScan job parent child) named apart = one_different _
+latches_differ st (at.ConsolidatorTry job parent keep gone leaf) named apart = two_different _ _ (pair_apart st job parent (keep ∷ gone ∷ []) (record { keep = keep; gone = gone; leaf = Some leaf }) named)
+latches_differ st (at.ConsolidatorPromote job parent keep gone) named apart = one_different _
+latches_differ st (at.ConsolidatorKeep job parent keep gone) named apart = one_different _
+latches_differ st (at.ConsolidatorDecide job parent keep gone) named apart = two_different _ _ (pair_apart st job parent (keep ∷ gone ∷ []) (record { keep = keep; gone = gone; leaf = None }) named)
+latches_differ st other named apart = none_different [] refl
 
 -- ---- the two halves of a split
 
@@ -108,7 +125,7 @@ module _ (m : Machine) (actor : ℕ) (may : ℕ → Type 0) (fetched : StoreStat
   split_apart parts same =
       let leaves = parts.row.leaves in
       let next = is_next_number fetched leaves.fresh leaves.free_after leaves.next in
-      let latched = fit.exact actor parts.held is_actor ∙ ap (λ (a : Activity). mode_among parts.held (latches_held m.store a)) parts.before ∙ at_itself parts.held (Some Exclusive) None in
+      let latched = ap (λ (a : Activity). mode_among parts.held (latches_held m.store a)) parts.before ∙ at_itself parts.held (Some Exclusive) None in
       let used = fit.used actor parts.held Exclusive latched in
       let stays : in_memory fetched parts.held ≡ Some (Live used.0) = brings.stays parts.held (inl (actor, Exclusive, latched)) (has_value (in_memory m.store parts.held) (Live used.0) used.1) ∙ used.1 in
       elim (cases_Bool (fetched.meta.free == 0)) [

@@ -1,14 +1,12 @@
 -- Where no page is dirty, a frame that must stay is latched, and 19 actors latch two pages each at most: the other frames are places.
 -- An empty log has room. So where nothing is left to flush, a step is ready.
-use Rattle.std.proofs.Common.{◌≡◌, inl, inr, ℕ, ◌+◌, ◌*◌, ◌≤◌, ◌==◌, Bool, true, false, not, ◌||◌, cond, List, [], ◌∷◌, length, Option, Some, None, refl, sym, ap, arith}
+use Rattle.std.proofs.Common.{◌≡◌, inl, inr, ℕ, ◌+◌, ◌*◌, ◌≤◌, ◌==◌, Bool, true, false, not, ◌||◌, cond, List, [], ◌∷◌, length, Some, None, refl, sym, ap, arith}
 use Rattle.std.specs.List.{find, count_by, sum_by}
 use Rattle.std.specs.Option.{is_some, option_map}
 use Rattle.std.proofs.lemmas.List.Sums.{sum_by-cons}
 use Rattle.hb_lemmas.proofs.Booleans.{if_same}
 use Rattle.hb_activity.specs.declared.holding.Latch.{Latch}
 use Rattle.hb_activity.proofs.Facts.HeldLatches.{two_at_most}
-use Rattle.hb_latch.specs.declared.modes.Mode.{Mode}
-use Rattle.hb_latch.specs.Tables.{mode_at}
 use Rattle.hb_pool.specs.Frames.{Use, has_id, must_stay}
 use Rattle.hb_store.specs.Calls.{IsReady}
 use Rattle.hb_store.specs.Held.{oldest_dirty}
@@ -16,14 +14,13 @@ use Rattle.hb_wal.specs.Log.{LogState, framed_bytes, pending_bytes}
 use Rattle.hb_core.specs.Forcing.{FlushesOnce, StaysSo}
 use Rattle.hb_core.specs.KeptFrames.{FlushingMakesReady, PlacesAreLeft}
 use Rattle.hb_core.specs.KeptMachine.{MachineKeeps}
-use Rattle.hb_core.specs.Machines.{Machine}
+use Rattle.hb_core.specs.Machines.{Machine, modes}
 use Rattle.hb_core.specs.Performing.{latches_held, mode_among}
 use Rattle.hb_core.specs.Steps.{GetsReady, IsUnready}
 use Rattle.hb_core.specs.Using.{actors, holders}
 use Rattle.hb_core.specs.declared.outcomes.Outcome.{Outcome}
 use Rattle.hb_core.specs.declared.outcomes.Outcome.TheVariants as outcomes
 use Rattle.hb_core.proofs.Machines.PinCounts.{IsSingle, one_if, pins_if, single_sum}
-use Rattle.hb_core.proofs.Facts.StillThere.{may_or_not}
 
 -- none is dirty
 none_dirty : (uses : List Use) → oldest_dirty uses ≡ None → find (λ (u : Use). u.dirty) uses ≡ None
@@ -125,24 +122,17 @@ module _ (m : Machine) (keeps : MachineKeeps m) where
   single : IsSingle m.uses
   single = keeps.frames_fit.tied.pool.distinct
 
-  actor_holds : (actor : ℕ) → count_by (λ (u : Use). is_some (mode_at m.latches actor u.id)) m.uses ≤ 2
-  actor_holds actor = elim (may_or_not actor) [
-    | inl may ↦
-        let latches = latches_held m.store (m.activity actor) in
-        let same = alike (λ (u : Use). is_some (mode_at m.latches actor u.id)) (among latches) m.uses (λ u. ap (λ (o : Option Mode). is_some o) (keeps.latches_fit.exact actor u.id may)) in
-        let most = latched_frames m.uses single latches in
-        let two : length latches ≤ 2 = two_at_most (m.activity actor) _ in
-        omega (arith, same, most, two)
-    | inr none ↦
-        let same = alike (λ (u : Use). is_some (mode_at m.latches actor u.id)) (λ u. false) m.uses (λ u. ap (λ (o : Option Mode). is_some o) (keeps.no_other_latches actor u.id none)) in
-        let nothing = none_among m.uses in
-        omega (arith, same, nothing)
-  ]
+  actor_holds : (actor : ℕ) → count_by (λ (u : Use). is_some (modes m actor u.id)) m.uses ≤ 2
+  actor_holds actor =
+      let latches = latches_held m.store (m.activity actor) in
+      let most : count_by (λ (u : Use). is_some (modes m actor u.id)) m.uses ≤ length latches = latched_frames m.uses single latches in
+      let two : length latches ≤ 2 = two_at_most (m.activity actor) _ in
+      omega (arith, most, two)
 
   few_stay : oldest_dirty m.uses ≡ None → count_by must_stay m.uses ≤ 38
   few_stay clean =
-      let stay = stays_counted (holders m.latches) m.uses (none_dirty m.uses clean) (λ q. let pins = keeps.frames_fit.pins q in let all = single_sum q m.uses (single q) in omega (arith, pins, all)) in
-      let most : sum_by (λ u. holders m.latches u.id) m.uses ≤ 2 * length actors = by_actors (λ actor q. is_some (mode_at m.latches actor q)) m.uses actor_holds actors in
+      let stay = stays_counted (holders (modes m)) m.uses (none_dirty m.uses clean) (λ q. let pins = keeps.frames_fit.pins q in let all = single_sum q m.uses (single q) in omega (arith, pins, all)) in
+      let most : sum_by (λ u. holders (modes m) u.id) m.uses ≤ 2 * length actors = by_actors (λ actor q. is_some (modes m actor q)) m.uses actor_holds actors in
       omega (arith, stay, most)
 
 pub places_are_left : PlacesAreLeft

@@ -1,6 +1,6 @@
 -- What came into memory, and what left it: a page that is there before and afterwards is the same, where the disk tells or the page
 -- must stay.
-use Rattle.std.proofs.Common.{◌≡◌, ◌≢◌, ◌⊎◌, inl, inr, ℕ, Some, None, sym, ap, ◌∙◌, subst}
+use Rattle.std.proofs.Common.{◌≡◌, ◌≢◌, ◌⊎◌, inl, inr, ℕ, Some, None, refl, sym, ap, ◌∙◌, subst}
 use Rattle.hb_frag.specs.declared.pages.LivePage.{LivePage}
 use Rattle.hb_frag.specs.declared.pages.Page.{Page}
 use Rattle.hb_frag.specs.declared.pages.Page.TheVariants.{Live}
@@ -8,10 +8,10 @@ use Rattle.hb_latch.specs.declared.modes.Mode.{Mode}
 use Rattle.hb_activity.specs.declared.activities.Activity.{Activity}
 use Rattle.hb_core.specs.Fetching.{Brings, MustStay}
 use Rattle.hb_core.specs.Keeps.{LatchesFit}
-use Rattle.hb_core.specs.Machines.{Files, Machine, live_here}
+use Rattle.hb_core.specs.Machines.{Files, Machine, live_here, modes, with_disk}
+use Rattle.hb_core.proofs.Latches.SameLatches.{HasHeld, live_held, same_modes, still_latched}
 use Rattle.hb_core.specs.Performing.{latches_held, mode_among}
 use Rattle.hb_space.specs.Actors.{IsActor}
-use Rattle.hb_latch.specs.Tables.{mode_at}
 use Rattle.hb_ops.specs.Files.{if_live}
 use Rattle.hb_store.specs.States.{StoreState, in_memory}
 use Rattle.hb_ops.proofs.Facts.PageNumberLaws.{live_so}
@@ -26,7 +26,7 @@ pub told_files : (m : Machine) (files : Files) → m.files ≡ Some files → m.
 told_files m files told none = not_none m.files files told none
 
 pub must_hold : (m : Machine) (actor id : ℕ) (activity : Activity) (mode : Mode) → IsActor actor → LatchesFit m → m.activity actor ≡ activity → mode_among id (latches_held m.store activity) ≡ Some mode → MustStay m id
-must_hold m actor id activity mode may fit is among = inl (actor, mode, fit.exact actor id may ∙ subst (λ (a : Activity). mode_among id (latches_held m.store a) ≡ Some mode) (sym is) among)
+must_hold m actor id activity mode may fit is among = inl (actor, mode, subst (λ (a : Activity). mode_among id (latches_held m.store a) ≡ Some mode) (sym is) among)
 
 module _ (m : Machine) (may : ℕ → Type 0) (fetched : StoreState) (brings : Brings m may fetched) where
   -- such a page of the machine that is in memory afterwards is the one that was there
@@ -46,12 +46,22 @@ module _ (m : Machine) (may : ℕ → Type 0) (fetched : StoreState) (brings : B
       ap if_live (same_there id (Live page) (Live now) sure (live_so (in_memory m.store id) page was) (live_so (in_memory fetched id) now is)) ∙ was
 
   -- a page that somebody holds stays
-  pub still_held : (actor id : ℕ) (mode : Mode) (page : Page) → mode_at m.latches actor id ≡ Some mode → in_memory m.store id ≡ Some page → in_memory fetched id ≡ Some page
+  pub still_held : (actor id : ℕ) (mode : Mode) (page : Page) → modes m actor id ≡ Some mode → in_memory m.store id ≡ Some page → in_memory fetched id ≡ Some page
   still_held actor id mode page holds was = brings.stays id (inl (actor, mode, holds)) (has_value (in_memory m.store id) page was) ∙ was
+
+  -- and so each actor has latched what it had
+  pub held_come : (who : ℕ) → HasHeld m who fetched
+  held_come who id mode page holds there = still_held who id mode (Live page) holds there
+
+  pub latches_come : LatchesFit m → (who : ℕ) → latches_held fetched (m.activity who) ≡ latches_held m.store (m.activity who)
+  latches_come fit who = still_latched m fit who fetched (held_come who)
+
+  pub same_held : LatchesFit m → modes (with_disk fetched m.files m.clock m) ≡ modes m
+  same_held fit = same_modes m fit (with_disk fetched m.files m.clock m) (λ who. refl) held_come
 
   -- so a page in use stays that an actor has latched where it stands
   pub own_there : (actor id : ℕ) (mode : Mode) (page : LivePage) → LatchesFit m → IsActor actor → mode_among id (latches_held m.store (m.activity actor)) ≡ Some mode → live_here m.store id ≡ Some page → live_here fetched id ≡ Some page
-  own_there actor id mode page fit may among live = ap if_live (still_held actor id mode (Live page) (fit.exact actor id may ∙ among) (live_so (in_memory m.store id) page live))
+  own_there actor id mode page fit may among live = live_held m actor fetched (held_come actor) id mode page among live
 
   -- a page that must stay does, and any other one stays or is gone, or has come again where the disk doesn't tell
   pub stays_or_left : (id : ℕ) (page : Page) → in_memory m.store id ≡ Some page → (in_memory fetched id ≡ Some page) ⊎ ((¬ (MustStay m id)) × ((in_memory fetched id ≡ None) ⊎ (m.files ≡ None)))

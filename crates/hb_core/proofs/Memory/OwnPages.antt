@@ -16,18 +16,20 @@ use Rattle.hb_core.proofs.Memory.OwnedOps.{IsFreeFor, OwnsTargets, allowed_by, o
 use Rattle.hb_core.proofs.Facts.GivenUpLaws.{gives_up_nothing}
 use Rattle.hb_core.proofs.Facts.StepKinds.{IsOutright, each_kind, FlushesMore, ready_kind}
 use Rattle.hb_core.proofs.Table.Targets.{IsNumber, numbers_are_targets, set_elsewhere}
-use Rattle.hb_core.specs.Asking.{wanted_by}
+use Rattle.hb_core.specs.Asking.{HasWayFree, wanted_by}
+use Rattle.hb_core.specs.Rows.{Row}
+use Rattle.hb_core.proofs.Latches.SameLatches.{HasHeld}
 use Rattle.hb_core.specs.Fetching.{Brings, MustStay}
 use Rattle.hb_core.specs.Forcing.{BeginsTurn, FailsToWrite, ForcesAll, StaysSo, WritesOldest}
 use Rattle.hb_core.specs.GivingUp.{gives_up}
 use Rattle.hb_core.specs.Keeps.{HoldsPagesOfFile, LatchesFit}
 use Rattle.hb_core.specs.Laws.{HasAlone, HeldPagesStay, IsInUse, OwnPagesChange, TakesAlone, MayHaveLeft}
-use Rattle.hb_core.specs.Machines.{Machine}
+use Rattle.hb_core.specs.Machines.{Machine, modes, with_disk}
 use Rattle.hb_core.specs.Performing.{MayDo, Performs}
 use Rattle.hb_core.specs.Steps.{GetsReady, Works}
 use Rattle.hb_core.specs.Using.{is_changed}
 use Rattle.hb_latch.specs.Modes.{goes_beside}
-use Rattle.hb_latch.specs.Tables.{IsGrantable, mode_at}
+use Rattle.hb_latch.specs.Tables.{IsGrantable}
 use Rattle.hb_space.specs.Actors.{IsActor}
 use Rattle.hb_store.specs.Calls.{change_here, read_here}
 use Rattle.hb_ops.specs.SetPages.{set_pages}
@@ -142,17 +144,17 @@ beside_none Shared is = false≢true is
 beside_none Update is = false≢true is
 beside_none Exclusive is = false≢true is
 
-module _ (m : Machine) (actor other id : ℕ) (fit : LatchesFit m) (another : other ≢ actor) (mode : Mode) (holds : mode_at m.latches other id ≡ Some mode) where
-  not_held : mode_at m.latches actor id ≡ Some Exclusive → ⊥
+module _ (m : Machine) (actor other id : ℕ) (fit : LatchesFit m) (another : other ≢ actor) (mode : Mode) (holds : modes m other id ≡ Some mode) where
+  not_held : modes m actor id ≡ Some Exclusive → ⊥
   not_held own =
-      let both : IfSome (mode_at m.latches actor id) (λ mode. IfSome (mode_at m.latches other id) (λ held. IsTrue (goes_beside mode held))) = fit.compatible actor other id (λ same. another (sym same)) in
-      let mine = subst (λ (o : Option Mode). IfSome o (λ mode. IfSome (mode_at m.latches other id) (λ held. IsTrue (goes_beside mode held)))) own both in
+      let both : IfSome (modes m actor id) (λ mode. IfSome (modes m other id) (λ held. IsTrue (goes_beside mode held))) = fit.compatible actor other id (λ same. another (sym same)) in
+      let mine = subst (λ (o : Option Mode). IfSome o (λ mode. IfSome (modes m other id) (λ held. IsTrue (goes_beside mode held)))) own both in
       beside_none mode (subst (λ (o : Option Mode). IfSome o (λ held. IsTrue (goes_beside Exclusive held))) holds mine)
 
   not_taken : TakesAlone m actor id → ⊥
   not_taken takes =
-      let grants : IsGrantable m.latches actor takes.wanted.page takes.wanted.mode = subst (λ (o : Option Wanted). IfSome o (λ wanted. IsGrantable m.latches actor wanted.page wanted.mode)) takes.wants takes.free in
-      let here : IfSome (mode_at m.latches other id) (λ held. IsTrue (goes_beside takes.wanted.mode held)) = subst (λ (n : ℕ). IfSome (mode_at m.latches other n) (λ held. IsTrue (goes_beside takes.wanted.mode held))) takes.page (grants other another) in
+      let grants : IsGrantable (modes m) actor takes.wanted.page takes.wanted.mode = subst (λ (o : Option Wanted). IfSome o (λ wanted. IsGrantable (modes m) actor wanted.page wanted.mode)) takes.wants takes.free in
+      let here : IfSome (modes m other id) (λ held. IsTrue (goes_beside takes.wanted.mode held)) = subst (λ (n : ℕ). IfSome (modes m other n) (λ held. IsTrue (goes_beside takes.wanted.mode held))) takes.page (grants other another) in
       let mine = subst (λ (o : Option Mode). IfSome o (λ held. IsTrue (goes_beside takes.wanted.mode held))) holds here in
       beside_none mode (subst (λ (own : Mode). IsTrue (goes_beside own mode)) takes.mode mine)
 
@@ -160,10 +162,16 @@ module _ (m : Machine) (actor other id : ℕ) (fit : LatchesFit m) (another : ot
   not_alone (inl own) = not_held own
   not_alone (inr takes) = not_taken takes
 
+stays_held : (m : Machine) (actor other id : ℕ) (mode : Mode) (new : Machine) (page : LivePage) → LatchesFit m → other ≢ actor → modes m other id ≡ Some mode → IsInUse new id page ⊎ MayHaveLeft m id new ⊎ HasAlone m actor id → IsInUse new id page
+stays_held m actor other id mode new page fit another holds (inl stays) = stays
+stays_held m actor other id mode new page fit another holds (inr (inl left)) = absurd (left.0 (inl (other, mode, holds)))
+stays_held m actor other id mode new page fit another holds (inr (inr alone)) = absurd (not_alone m actor other id fit another mode holds alone)
+
 pub held_pages_stay : HeldPagesStay
-held_pages_stay m actor outcome new latches fit inside step other id mode page another holds used = by (own_pages_change m actor outcome new latches fit inside step id page used)
-  where
-    by : IsInUse new id page ⊎ MayHaveLeft m id new ⊎ HasAlone m actor id → IsInUse new id page
-    by (inl stays) = stays
-    by (inr (inl left)) = absurd (left.0 (inl (other, mode, holds)))
-    by (inr (inr alone)) = absurd (not_alone m actor other id fit another mode holds alone)
+held_pages_stay m actor outcome new latches fit inside step other id mode page another holds used = stays_held m actor other id mode new page fit another holds (own_pages_change m actor outcome new latches fit inside step id page used)
+
+-- and where a row is done
+pub row_held : (m : Machine) (actor : ℕ) (may : ℕ → Type 0) (fetched : StoreState) → IsActor actor → LatchesFit m → HoldsPagesOfFile m → HasWayFree m actor → Brings m may fetched
+    → (deed : Deed) → Row (m.activity actor) (wanted_by m actor) (with_disk fetched m.files m.clock m) deed → (outcome : Outcome) (new : Machine) → Performs m fetched actor deed outcome new → (other : ℕ) → other ≢ actor → HasHeld m other new.store
+row_held m actor may fetched is_actor fit inside free brings deed row outcome new performs other another id mode page holds used = stays_held m actor other id mode new page fit another holds
+    (performed m actor is_actor fit inside new id page used may fetched deed outcome brings (owned_row m actor may fetched is_actor fit inside free brings (wanted_by m actor) deed refl (allowed_by deed.op _ fetched new.store performs.store) row) performs)

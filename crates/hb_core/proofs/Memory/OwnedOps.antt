@@ -84,7 +84,7 @@ made_is_free m may fetched actor fresh free_after inside brings next = inr (made
 
 -- what an actor holds exclusively
 pub held_alone : (m : Machine) (actor id : ℕ) → IsActor actor → LatchesFit m → mode_among id (latches_held m.store (m.activity actor)) ≡ Some Exclusive → IsFreeFor m actor id
-held_alone m actor id may fit is = inl (inl (fit.exact actor id may ∙ is))
+held_alone m actor id may fit is = inl (inl is)
 
 pub second_mode : (first id : ℕ) (mode : Mode) → cond (first == id) (Some mode) (cond (id == id) (Some mode) None) ≡ Some mode
 second_mode first id mode = elim (cases_Bool (first == id)) [

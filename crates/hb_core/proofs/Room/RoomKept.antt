@@ -1,12 +1,12 @@
 -- After a step a page that is to be split lacks room for its insert, and of the two halves of a split one has room.
-use Rattle.std.proofs.Common.{◌≡◌, ◌≢◌, ◌⊎◌, inl, inr, ℕ, ◌==◌, ◌<◌, ◌≤◌, cond, List, [], ◌∷◌, length, Option, Some, None, refl, sym, ap, ◌∙◌, subst}
-use Rattle.std.proofs.lemmas.Bool.{cases_Bool, eqb-true, eqb-false}
+use Rattle.std.proofs.Common.{◌≡◌, ◌≢◌, ◌⊎◌, inl, inr, ℕ, ◌==◌, ◌<◌, ◌≤◌, List, [], ◌∷◌, length, Option, Some, None, refl, sym, ap, ◌∙◌, subst}
+use Rattle.hb_core.proofs.Latches.SameLatches.{HasHeld, live_held}
+use Rattle.hb_core.proofs.Latches.HeldKept.{each_held}
 use Rattle.std.proofs.lemmas.Option.{none-some}
 use Rattle.hb_space.specs.declared.records.Record.{Record}
 use Rattle.hb_layout.specs.declared.limits.TheConstants.{DCAP_MIN}
 use Rattle.hb_layout.specs.declared.meta.Meta.{Meta}
 use Rattle.hb_frag.specs.declared.pages.LivePage.{LivePage}
-use Rattle.hb_frag.specs.declared.pages.Page.TheVariants.{Live}
 use Rattle.hb_ops.specs.declared.operations.Op.{Op}
 use Rattle.hb_ops.specs.declared.operations.Op.TheVariants as ops
 use Rattle.hb_set.specs.declared.commands.Command.TheVariants.{Insert}
@@ -21,30 +21,26 @@ use Rattle.hb_activity.specs.Classes.{line_in_hand}
 use Rattle.hb_activity.specs.Deeds.{Deed, does}
 use Rattle.hb_activity.specs.Holding.{latch_on}
 use Rattle.hb_activity.specs.Walks.{walk_held}
-use Rattle.hb_core.proofs.Table.NextPlaces.{HasPlace, HoldsNothing, KeepsParent, PartsFull, TakesFull, nothing_given_up, now, place_after}
+use Rattle.hb_core.proofs.Table.NextPlaces.{HasPlace, HoldsNothing, KeepsParent, PartsFull, TakesFull, now, place_after}
 use Rattle.hb_core.proofs.Room.SplitHalves.{one_has_room, takes_full}
 use Rattle.hb_core.proofs.Room.SplitHome.{RoomLaws}
 use Rattle.hb_core.proofs.Facts.StepKinds.{each_kind, FlushesMore, ready_kind}
-use Rattle.hb_core.proofs.Facts.StillThere.{may_or_not, other_holds}
-use Rattle.hb_core.proofs.Facts.Ways.{KeepsAllButDisk, forces_so, meets_so, stays_so, more_so, own_next, others_next}
 use Rattle.hb_core.specs.Acting.{MeetsBadPage}
 use Rattle.hb_core.specs.Fetching.{Brings, MustStay}
 use Rattle.hb_core.specs.Forcing.{ForcesAll, StaysSo}
 use Rattle.hb_core.specs.KeepingLaws.{RoomStaysKnown}
 use Rattle.hb_core.specs.KeptLines.{MetaWithinLimits}
-use Rattle.hb_core.specs.Keeps.{HasNobodyElse, HasRoomFor, HoldsPagesOfFile, KnowsRoom, LacksRecordAt, LacksRoomFor, LatchesFit, OneHasRoom}
+use Rattle.hb_core.specs.Keeps.{HasRoomFor, HoldsPagesOfFile, KnowsRoom, LacksRecordAt, LacksRoomFor, LatchesFit, OneHasRoom}
 use Rattle.hb_core.specs.Machines.{Machine, live_here}
 use Rattle.hb_core.specs.Performing.{MayDo, Performs, latches_held, mode_among}
 use Rattle.hb_core.specs.Steps.{StepsTo, Works}
 use Rattle.hb_frag.specs.Leaves.{weight_of}
 use Rattle.hb_space.specs.Actors.{IsActor}
-use Rattle.hb_ops.specs.Files.{if_live}
 use Rattle.hb_ops.specs.Operations.{change_of}
 use Rattle.hb_ops.specs.Recording.{put_page}
 use Rattle.hb_store.specs.Calls.{read_here}
-use Rattle.hb_store.specs.States.{StoreState, in_memory}
+use Rattle.hb_store.specs.States.{StoreState}
 use Rattle.hb_core.proofs.Table.MergerMoves.{no_line}
-use Rattle.hb_ops.proofs.Facts.PageNumberLaws.{live_so}
 use Rattle.hb_lemmas.proofs.Booleans.{at_itself}
 use Rattle.hb_lemmas.proofs.Lists.{not_empty}
 use Rattle.hb_core.proofs.Memory.OwnedOps.{second_mode}
@@ -259,72 +255,20 @@ module _ (laws : RoomLaws) (least : DCAP_MIN ≡ 6) (m : Machine) (actor : ℕ) 
 
 -- ---- each step
 
-module _ (laws : RoomLaws) (least : DCAP_MIN ≡ 6) (m : Machine) (actor : ℕ) (outcome : Outcome) (new : Machine) (latches : IsActor actor) (fit : LatchesFit m) (inside : HoldsPagesOfFile m) (within : MetaWithinLimits m) (nobody : HasNobodyElse m)
-    (knows : KnowsRoom m) (step : StepsTo m actor outcome new) where
-  capacity : SameCapacity m new
-  capacity = capacity_stays m actor outcome new step
-
-  other_knows : (other : ℕ) → other ≢ actor → IsActor other → KnowsOf new (m.activity other)
-  other_knows other another may = record {
-    splits = λ held line is.
-        splits_again m new capacity line held
-        (λ page live. other_holds m actor outcome new latches fit inside step other another may (at.SessionSplit line held) held Exclusive page is (at_itself held (Some Exclusive) None) live)
-        (knows.splits other held line is);
-    puts = λ source fresh line is.
-        puts_again m new capacity line source fresh
-        (λ page live. other_holds m actor outcome new latches fit inside step other another may (at.SessionPut line source fresh) source Exclusive page is (at_itself source (Some Exclusive) (cond (fresh == source) (Some Exclusive) None)) live)
-        (λ page live. other_holds m actor outcome new latches fit inside step other another may (at.SessionPut line source fresh) fresh Exclusive page is (second_mode source fresh Exclusive) live)
-        (knows.puts other source fresh line is);
-  }
-
-  others_know : (other : ℕ) → other ≢ actor → new.activity other ≡ m.activity other → KnowsOf new (new.activity other)
-  others_know other another same = knows_as new (new.activity other) (m.activity other) same (elim (may_or_not other) [
-    | inl may ↦ other_knows other another may
-    | inr none ↦ knows_as new (m.activity other) at.SessionIdle (nobody other none) (free_knows new at.SessionIdle (record { walk = refl; latches = λ st. refl; merging = refl }))
-  ])
-
-  with_own : KnowsOf new (new.activity actor) → ((other : ℕ) → other ≢ actor → new.activity other ≡ m.activity other) → KnowsRoom new
-  with_own own others = all_know new (λ a. elim (cases_Bool (a == actor)) [
-    | inl here ↦ subst (λ (n : ℕ). KnowsOf new (new.activity n)) (sym (eqb-true a actor here)) own
-    | inr off ↦ let another = eqb-false a actor off in others_know a another (others a another)
-  ])
-
-  same_but_disk : KeepsAllButDisk m new → KnowsRoom new
-  same_but_disk keeps = with_own
-      (knows_as new (new.activity actor) (m.activity actor) (ap (λ (all : ℕ → Activity). all actor) keeps.activity) (record {
-        splits = λ held line is. splits_again m new capacity line held (λ page live. still held page (split_latched m.store (m.activity actor) line held is) live) (knows.splits actor held line is);
-        puts = λ source fresh line is.
-            let both = put_latched m.store (m.activity actor) line source fresh is in
-            puts_again m new capacity line source fresh (λ page live. still source page both.0 live) (λ page live. still fresh page both.1 live) (knows.puts actor source fresh line is);
-      }))
-      (λ other another. ap (λ (all : ℕ → Activity). all other) keeps.activity)
-    where
-      still : (id : ℕ) (page : LivePage) → mode_among id (latches_held m.store (m.activity actor)) ≡ Some Exclusive → live_here m.store id ≡ Some page → live_here new.store id ≡ Some page
-      still id page among live = ap if_live (keeps.memory id (Live page) (inl (actor, Exclusive, fit.exact actor id latches ∙ among)) (live_so (in_memory m.store id) page live))
-
-  did : (fetched : StoreState) (deed : Deed) → Performs m fetched actor deed outcome new → KnowsOf new deed.next → KnowsRoom new
-  did fetched deed performs own = with_own (knows_as new (new.activity actor) deed.next (own_next actor deed.next m.activity new.activity performs.activity) own) (others_next actor deed.next m.activity new.activity performs.activity)
-
-  freed : (fetched : StoreState) (deed : Deed) → Performs m fetched actor deed outcome new → HoldsNothing deed.next → KnowsRoom new
-  freed fetched deed performs free = did fetched deed performs (free_knows new deed.next free)
-
-  worked : Works m actor outcome new → KnowsRoom new
-  worked (inl (by, way, so)) = same_but_disk (stays_so m actor outcome new (outcomes.Blocked by) so)
-  worked (inr (inl (free, unready, inl (waits, force)))) = same_but_disk (forces_so m actor outcome new outcomes.Helped force)
-  worked (inr (inl (free, unready, inr (none, rest)))) =
-      ready_kind m outcome new (KnowsRoom new) none (λ more. same_but_disk (more_so m actor outcome new more)) rest
-  worked (inr (inr (free, ready, inl acts))) =
-      did acts.fetched acts.deed acts.performs
-      (knows_there laws least m actor _ acts.fetched latches fit inside within knows acts.brings acts.deed new capacity acts.performs.store (place_after m actor acts.fetched _ acts.deed refl acts.row))
-  worked (inr (inr (free, ready, inr (inl gives)))) = freed gives.fetched _ gives.performs (nothing_given_up gives.why (m.activity actor))
-  worked (inr (inr (free, ready, inr (inr meets)))) = same_but_disk (meets_so m actor outcome new meets)
+-- where the pages that an actor holds stay, and the capacity
+pub knows_held : (m new : Machine) → SameCapacity m new → (actor : ℕ) → HasHeld m actor new.store → KnowsOf m (m.activity actor) → KnowsOf new (m.activity actor)
+knows_held m new capacity actor has knows = record {
+  splits = λ held line is. splits_again m new capacity line held (λ page live. live_held m actor new.store has held Exclusive page (split_latched m.store (m.activity actor) line held is) live) (knows.splits held line is);
+  puts = λ source fresh line is.
+      let both = put_latched m.store (m.activity actor) line source fresh is in
+      puts_again m new capacity line source fresh (λ page live. live_held m actor new.store has source Exclusive page both.0 live) (λ page live. live_held m actor new.store has fresh Exclusive page both.1 live) (knows.puts source fresh line is);
+}
 
 pub room_stays_known : RoomLaws → DCAP_MIN ≡ 6 → RoomStaysKnown
-room_stays_known laws least m actor outcome new latches fit inside within nobody knows step =
-    each_kind m actor outcome new (KnowsRoom new)
-    (λ said quiet so. same_but_disk laws least m actor outcome new latches fit inside within nobody knows step (stays_so m actor outcome new said so))
-    (λ said quiet force. same_but_disk laws least m actor outcome new latches fit inside within nobody knows step (forces_so m actor outcome new said force))
-    (λ more. same_but_disk laws least m actor outcome new latches fit inside within nobody knows step (more_so m actor outcome new more))
-    (λ deed outright performs. freed laws least m actor outcome new latches fit inside within nobody knows step m.store deed performs (record { walk = outright.walk; latches = outright.latches; merging = outright.merging }))
-    (worked laws least m actor outcome new latches fit inside within nobody knows step)
-    step
+room_stays_known laws least m actor outcome new latches fit inside within nobody knows step = all_know new (each_held m actor outcome new latches fit inside step (λ other activity. KnowsOf new activity)
+    (λ other has. knows_held m new capacity other has (record { splits = knows.splits other; puts = knows.puts other }))
+    (free_knows new)
+    (λ way acts. knows_there laws least m actor _ acts.fetched latches fit inside within knows acts.brings acts.deed new capacity acts.performs.store (place_after m actor acts.fetched _ acts.deed refl acts.row)))
+  where
+    capacity : SameCapacity m new
+    capacity = capacity_stays m actor outcome new step

@@ -82,7 +82,7 @@ module _ (m : Machine) (actor : ℕ) (may : IsActor actor) (keeps : MachineKeeps
       → IsSome (in_mode mode (walk_next goal held m.store.meta (option_and_then (live_here m.store) held)))
   walk_wants mode goal p None is point walks = subst (λ (g : Option (List ℕ)). IsSome (in_mode mode (walk_next g None m.store.meta None))) (sym is) refl
   walk_wants mode goal p (Some held) is point walks =
-      let there = keeps.latches_fit.walking actor held may walks in
+      let there = keeps.latches_fit.walking actor held walks in
       subst (λ (g : Option (List ℕ)). IsSome (in_mode mode (walk_next g (Some held) m.store.meta (live_here m.store held)))) (sym is)
       (held_leads mode p held (live_here m.store held) refl (has_value (live_here m.store held) there.0 (ap if_live there.1)) walks (point ∙ is))
 

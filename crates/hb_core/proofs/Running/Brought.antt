@@ -14,7 +14,10 @@ use Rattle.hb_store.specs.Fetching.{LooksUp}
 use Rattle.hb_store.specs.Keeps.{StoreKeeps}
 use Rattle.hb_store.specs.States.{IsGoodPage, IsMemory, StoreState, in_memory}
 use Rattle.hb_core.specs.Fetching.{Brings, MustStay}
-use Rattle.hb_core.specs.Machines.{Files, Machine, current_file, with_disk, with_uses}
+use Rattle.hb_core.specs.Keeps.{LatchesFit}
+use Rattle.hb_core.specs.Machines.{Files, Machine, current_file, modes, with_disk, with_uses}
+use Rattle.hb_core.proofs.Memory.BroughtPages.{same_held}
+use Rattle.hb_latch.specs.Tables.{HeldModes}
 use Rattle.hb_core.specs.Moving.{with_order_of_use, with_store}
 use Rattle.hb_core.specs.Showing.{RunningCore, ShowsFiles, ShowsMachine}
 use Rattle.hb_core.proofs.Running.ForcedShows.{shown_with}
@@ -32,8 +35,8 @@ module _ (m : Machine) (d e : DiskModel) (c : RunningCore) (failed : Type 0) (st
   }
 
   -- the core shows the machine with the pages that it has now, in their order of use
-  pub shows_store : (uses : List Use) → ShowsMachine e (with_order_of_use uses (with_store st c)) (with_uses uses (with_disk st m.files m.clock m))
-  shows_store uses = shown_with d e c st uses m shows st uses m.files m.clock refl refl
+  pub shows_store : modes (with_disk st m.files m.clock m) ≡ modes m → (uses : List Use) → ShowsMachine e (with_order_of_use uses (with_store st c)) (with_uses uses (with_disk st m.files m.clock m))
+  shows_store held uses = shown_with d e c st uses m shows st uses m.files m.clock held refl refl
       (λ told. files_as (files_then (shows.tells (subst (λ (o : Option (List ℕ)). IsSome o) looks.only.stays.told told))))
       (λ none. shows.silent (sym looks.only.stays.told ∙ none))
     where
@@ -91,7 +94,7 @@ module _ (m : Machine) (d e : DiskModel) (c : RunningCore) (failed : Type 0) (st
     }
 
 -- Two brings in a row make one. Over a disk that tells a page that left and came again is the file's, as it was before.
-module _ (m : Machine) (may might : ℕ → Type 0) (st then : StoreState) (uses : List Use) (first : Brings m may st) (second : Brings (with_uses uses (with_disk st m.files m.clock m)) might then)
+module _ (m : Machine) (may might : ℕ → Type 0) (fit : LatchesFit m) (st then : StoreState) (uses : List Use) (first : Brings m may st) (second : Brings (with_uses uses (with_disk st m.files m.clock m)) might then)
     (shown : (files : Files) → m.files ≡ Some files → (id : ℕ) (page : Page) → in_memory m.store id ≡ Some page → page_of (current_file files) id ≡ Some page) where
   abbrev middle : Machine
   middle = with_uses uses (with_disk st m.files m.clock m)
@@ -100,7 +103,7 @@ module _ (m : Machine) (may might : ℕ → Type 0) (st then : StoreState) (uses
   rest_joined = second.rest ∙ ap (λ (s : StoreState). record s { pages = then.pages }) first.rest
 
   still_must : (id : ℕ) → MustStay m id → MustStay middle id
-  still_must id (inl held) = inl held
+  still_must id (inl (actor, mode, held)) = inl (actor, mode, ap (λ (t : HeldModes). t actor id) (same_held m may st first fit) ∙ held)
   still_must id (inr dirty) = inr (ap (λ (s : set.FinSet nat_cmp). set.contains s id) (ap (λ (s : StoreState). s.dirty) first.rest) ∙ dirty)
 
   must_not : (id : ℕ) → (MustStay middle id → ⊥) → MustStay m id → ⊥

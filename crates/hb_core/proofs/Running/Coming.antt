@@ -57,7 +57,8 @@ use Rattle.hb_core.specs.Using.{page_wanted, unpin_each, use_wanted}
 use Rattle.hb_pool.specs.Frames.{Use, pinned, unpinned}
 use Rattle.hb_pool.specs.Pools.{frame_of, in_place, places, put_last}
 use Rattle.hb_store.specs.Held.{IsTied}
-use Rattle.hb_core.specs.Machines.{Files, Machine, current_file, live_here, with_disk, with_uses}
+use Rattle.hb_core.specs.Machines.{Files, Machine, current_file, live_here, modes, with_disk, with_uses}
+use Rattle.hb_core.proofs.Memory.BroughtPages.{same_held}
 use Rattle.hb_core.specs.Rows.{IsAtHand}
 use Rattle.hb_core.specs.Showing.{RunningCore, ShowsMachine}
 use Rattle.hb_core.specs.Stopping.{IsHaltOf}
@@ -235,7 +236,7 @@ module _ (m : Machine) (d : DiskModel) (c : RunningCore) (actor : ℕ) (latches 
         let not_there : FetchesNot m.store.meta d wanted.page stop = subst (λ (x : StoreState). FetchesNot x.meta d wanted.page stop) (sym step.shows.store) why in
         record {
           brings = brings_none m (MayNeed m actor st) st same;
-          shows = shows_but e (with_order_of_use uses (with_store st c)) (with_uses uses (with_disk st m.files m.clock m)) actor latches (shows_store m d e c failed st step.shows looks uses);
+          shows = shows_but e (with_order_of_use uses (with_store st c)) (with_uses uses (with_disk st m.files m.clock m)) actor latches (shows_store m d e c failed st step.shows looks (ap (λ (x : StoreState). modes (with_disk x m.files m.clock m)) (sym same)) uses);
           cause = subst (λ (x : StoreState). IsHalt m actor x halt) same (refused_by none stop halt is not_there (sound_or_untold stop sound));
           used_is = inl (kept.1 ∙ sym step.shows.uses);
           tied = subst (λ (l : List Use). IsTied st l) (sym kept.1) (subst (λ (x : StoreState). IsTied x c.uses) (sym kept.0) (shown_tied d c m step));
@@ -271,7 +272,7 @@ module _ (m : Machine) (d : DiskModel) (c : RunningCore) (actor : ℕ) (latches 
         passed passes = record {
           may = work;
           brings = brings_wider m (λ id. id ≡ wanted.page) (IsWantedPage (wanted_by m actor)) st (λ id same. subst (λ (o : Option Wanted). IsWantedPage o id) (sym wants) same) brings_it;
-          shows = shows_store m d e c failed st step.shows looks uses;
+          shows = shows_store m d e c failed st step.shows looks (same_held m _ st brings_it work.goes_on.kept.latches_fit) uses;
           at_hand = subst (λ (o : Option Wanted). IfSome o (λ wanted. (page : LivePage) × IsAtHand (with_uses uses (with_disk st m.files m.clock m)) (m.activity actor) wanted page)) (sym wants)
               (passes.page, record { live = passes.live; level = passes.level; box = passes.box });
           uses = used_so ∙ ap (λ (o : Option Wanted). use_wanted o m.uses) (sym wants);
@@ -313,7 +314,7 @@ module _ (m : Machine) (d : DiskModel) (c : RunningCore) (actor : ℕ) (latches 
           → (why : Why) → FailsTest st activity wanted why → Halts m actor (Stops (stops.Damaged wanted.page why)) e (with_order_of_use left (with_store st c))
       failed_test uses left used tied let_go why (page, there, other) = record {
         brings = brings_wider m (λ id. id ≡ wanted.page) (MayNeed m actor st) st (needs_it st) brings_it;
-        shows = shows_but e (with_order_of_use left (with_store st c)) (with_uses left (with_disk st m.files m.clock m)) actor latches (shows_store m d e c failed st step.shows looks left);
+        shows = shows_but e (with_order_of_use left (with_store st c)) (with_uses left (with_disk st m.files m.clock m)) actor latches (shows_store m d e c failed st step.shows looks (same_held m _ st brings_it work.goes_on.kept.latches_fit) left);
         used_is = inr (inl (let_go ∙ ap (in_place wanted.page unpinned) (used_so uses used tied) ∙ ap (λ (o : Option Wanted). unpin_each (page_wanted o) (use_wanted o m.uses)) (sym wants)));
         tied = subst (λ (l : List Use). IsTied st l) (sym let_go) (left_tied uses used tied);
         cause = inl (subst (λ (o : Option Wanted). IsBadWanted m.files st o (asked_box activity st) wanted.page why) (sym wants) (is_bad why page there other));

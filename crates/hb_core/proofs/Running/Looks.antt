@@ -1,5 +1,7 @@
 -- The page into which an actor's next step looks is in memory, as it was before other pages came, and can be looked into.
 use Rattle.std.proofs.Common.{◌≡◌, inl, inr, ℕ, List, Option, Some, None, IfSome, IsSome, refl, sym, ap, ◌∙◌, subst}
+use Rattle.hb_core.proofs.Memory.BroughtPages.{held_come}
+use Rattle.hb_core.proofs.Latches.SameLatches.{live_held}
 use Rattle.std.specs.Option.{option_and_then}
 use Rattle.std.proofs.lemmas.Bool.{false≢true}
 use Rattle.std.proofs.lemmas.Option.{same_Some}
@@ -20,9 +22,8 @@ use Rattle.hb_activity.specs.Passing.{LeadsBelow}
 use Rattle.hb_activity.specs.Walks.{walk_held, walk_point}
 use Rattle.hb_activity.specs.Wanting.{CanLook, HasLeafAt, LooksIntoPage, looked_at, wanted_of}
 use Rattle.hb_store.specs.States.{IsGoodPage, StoreState, in_memory}
-use Rattle.hb_core.proofs.Latches.LatchesStay.{walk_latched}
-use Rattle.hb_core.proofs.Memory.BroughtPages.{still_held}
-use Rattle.hb_core.proofs.Walks.MergesKept.{named_again, place_latched, known_at}
+use Rattle.hb_core.proofs.Latches.SameLatches.{walk_latched}
+use Rattle.hb_core.proofs.Walks.MergesKept.{named_again, place_latched, known_at, place_stays}
 use Rattle.hb_core.proofs.Walks.WalksKept.{IsAtParent, parent_latched}
 use Rattle.hb_core.specs.Asking.{looked_live, looked_page, wanted_by}
 use Rattle.hb_core.specs.Fetching.{Brings}
@@ -49,7 +50,7 @@ module _ (m : Machine) (actor : ℕ) (may : IsActor actor) (keeps : MachineKeeps
       → ((page : LivePage) → IfSome (walk_point activity) (Holds page.area) → IfSome (looked_at activity) (Holds page.area)) → LooksInto m.store activity held
   walks_into activity held is walks point =
       let held_by : walk_held (m.activity actor) ≡ Some held = ap walk_held is ∙ walks in
-      let one = keeps.latches_fit.walking actor held may held_by in
+      let one = keeps.latches_fit.walking actor held held_by in
       let live : live_here m.store held ≡ Some one.0 = ap if_live one.1 in
       let latch = walk_latched activity m.store held one.0 walks live in
       record {
@@ -168,7 +169,7 @@ may_look_now m actor may keeps = may_look_then m actor may keeps m.store (λ id 
 module _ (m : Machine) (actor : ℕ) (may : IsActor actor) (keeps : MachineKeeps m) (needs : ℕ → Type 0) (st : StoreState) (brings : Brings m needs st) where
   -- a page that the actor holds stays
   pub held_stays : (id : ℕ) (mode : Mode) (page : LivePage) → mode_among id (latches_held m.store (m.activity actor)) ≡ Some mode → live_here m.store id ≡ Some page → live_here st id ≡ Some page
-  held_stays id mode page among live = ap if_live (still_held m needs st brings actor id mode (Live page) (keeps.latches_fit.exact actor id may ∙ among) (live_so (in_memory m.store id) page live))
+  held_stays = live_held m actor st (held_come m needs st brings actor)
 
   pub may_look : MayLook st (m.activity actor)
   may_look = may_look_then m actor may keeps st held_stays
@@ -184,9 +185,4 @@ module _ (m : Machine) (actor : ℕ) (may : IsActor actor) (keeps : MachineKeeps
 
   -- and what a consolidator knows it knows still
   pub names_stay : IfSome (merging_at (m.activity actor)) (NamesKnown st)
-  names_stay = named_again m.store st (merging_at (m.activity actor)) (λ place at_place.
-      let latched = place_latched m.store (m.activity actor) place at_place in
-      record {
-        parent = λ page live. held_stays place.parent latched.parent.0 page latched.parent.1 live;
-        pair = λ pair is page live. let latch = latched.pair pair is in held_stays pair.keep latch.0 page latch.1 live;
-      }) (keeps.walk_in_space.merging actor)
+  names_stay = named_again m.store st (merging_at (m.activity actor)) (place_stays m actor st (held_come m needs st brings actor)) (keeps.walk_in_space.merging actor)

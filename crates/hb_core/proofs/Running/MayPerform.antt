@@ -1,9 +1,10 @@
 -- What a decider said may be performed: its operation may be committed, its actor may stand as it says, a line that joins the order has room,
 -- and the pages that came are those that the row needs.
-use Rattle.std.proofs.Common.{◌≡◌, ◌⊎◌, inl, inr, ℕ, ◌<◌, List, length, Option, IsSome, IsTrue, IfSome, refl, sym, ap, subst, arith, ◌++◌, None, Some}
+use Rattle.std.proofs.Common.{◌≡◌, ◌⊎◌, inl, inr, ℕ, ◌<◌, List, length, Option, IsSome, IsTrue, IfSome, refl, sym, ap, ◌∙◌, subst, arith, ◌++◌, None, Some}
+use Rattle.hb_latch.specs.Tables.{mode_at, HeldModes}
+use Rattle.hb_core.proofs.Memory.BroughtPages.{same_held}
 use Rattle.std.proofs.lemmas.Bool.{false≢true}
 use Rattle.hb_disk.specs.Model.{DiskModel}
-use Rattle.hb_latch.specs.Tables.{LatchTable}
 use Rattle.hb_space.specs.Actors.{IsActor}
 use Rattle.hb_ops.specs.declared.operations.Op.{Op}
 use Rattle.hb_ops.specs.Files.{FileState}
@@ -30,7 +31,7 @@ use Rattle.hb_core.specs.Acting.{takes_number}
 use Rattle.hb_core.specs.Asking.{wanted_by}
 use Rattle.hb_core.specs.Fetching.{Brings, IsFreeHead, IsWantedPage}
 use Rattle.hb_core.specs.MachineLaws.{RowsMayBeDone}
-use Rattle.hb_core.specs.Machines.{Machine, with_disk, with_uses}
+use Rattle.hb_core.specs.Machines.{Machine, with_disk, with_uses, modes}
 use Rattle.hb_core.specs.Pinning.{CanMovePins}
 use Rattle.hb_core.specs.Using.{page_wanted, pages_of, use_done, use_number, use_wanted}
 use Rattle.hb_core.specs.Performing.{latches_held}
@@ -75,11 +76,11 @@ module _ (d : DiskModel) (c : RunningCore) (m : Machine) (actor : ℕ) (free : O
   came : Brings m AnyPage c.store
   came = brings d c m actor free may has
 
-  pub stands_after : (st : StoreState) → MayDo next.op (length c.order) c.store st → MayStand actor c.latches st (placed_at (length c.order) next.then)
+  pub stands_after : (st : StoreState) → MayDo next.op (length c.order) c.store st → MayStand actor (mode_at c.latches) st (placed_at (length c.order) next.then)
   stands_after st done =
       let here = may_stand m actor c.store st deed may has.may came row_there (subst (λ (n : ℕ). MayDo next.op n c.store st) (sym (shown_length d c (with_memory c m) has.shows)) done) in
-      subst (λ (table : LatchTable). MayStand actor table st (placed_at (length c.order) next.then)) has.shows.latches
-      (subst (λ (n : ℕ). MayStand actor m.latches st (placed_at n next.then)) (shown_length d c (with_memory c m) has.shows) here)
+      subst (λ (t : HeldModes). MayStand actor t st (placed_at (length c.order) next.then)) (sym (same_held m AnyPage c.store came has.may.goes_on.kept.latches_fit) ∙ has.shows.latches)
+      (subst (λ (n : ℕ). MayStand actor (modes m) st (placed_at n next.then)) (shown_length d c (with_memory c m) has.shows) here)
 
   -- the actor has nothing in hand meanwhile
   elsewhere : (op : Op) (idle : Activity) → MayCommit d c op → MayCommit d (with_standing actor idle c) op

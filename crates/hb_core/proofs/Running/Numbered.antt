@@ -34,7 +34,8 @@ use Rattle.hb_activity.specs.declared.dropping.DropWhy.TheVariants as drops
 use Rattle.hb_core.specs.declared.halts.Halt.TheVariants.{GivesUp, Stops}
 use Rattle.hb_core.proofs.Machines.PinsFollow.{pinned_more}
 use Rattle.hb_core.proofs.Running.Brought.{brings_joined, brings_numbered, brings_wider, fetch_brings, shows_store}
-use Rattle.hb_core.proofs.Memory.BroughtPages.{brings_none}
+use Rattle.hb_core.proofs.Memory.BroughtPages.{brings_none, same_held}
+use Rattle.hb_latch.specs.Tables.{HeldModes}
 use Rattle.hb_core.proofs.Running.Frames.{must_here, wanted_here}
 use Rattle.hb_core.proofs.Running.PlacesFor.{after_wanted, is_ready}
 use Rattle.hb_activity.specs.Wanting.{may_commit}
@@ -197,7 +198,7 @@ module _ (m : Machine) (d : DiskModel) (c : RunningCore) (actor : ℕ) (come : H
   must_then id must = must_here m c.store c.uses come.may.goes_on.kept (ap (λ (s : StoreState). s.dirty) come.brings.rest) come.tied (λ q. let more = (pinned_more false m.store.meta (wanted_by m actor) m.uses c.uses come.uses come.may.goes_on.kept.frames_fit.tied.pool.distinct).pins q in omega (arith, more)) id (as_before must)
     where
       as_before : MustStay (with_memory c m) id → MustStay m id
-      as_before (inl held) = inl held
+      as_before (inl (who, mode, held)) = inl (who, mode, sym (ap (λ (t : HeldModes). t who id) (same_held m _ c.store come.brings come.may.goes_on.kept.latches_fit)) ∙ held)
       as_before (inr dirty) = inr (ap (λ (s : set.FinSet nat_cmp). set.contains s id) (sym (ap (λ (s : StoreState). s.dirty) come.brings.rest)) ∙ dirty)
 
 module _ (m : Machine) (d : DiskModel) (c : RunningCore) (actor : ℕ) (latches : IsActor actor) (come : HasCome m actor d c) (needs : NeedsNumber (m.activity actor) (wanted_by m actor) (with_memory c m))
@@ -232,10 +233,10 @@ module _ (m : Machine) (d : DiskModel) (c : RunningCore) (actor : ℕ) (latches 
   either id (inr same, some) = inr (same ∙ free_meta, λ zero. omega (arith, some, zero))
 
   joined : Brings m (λ id. IsWantedPage (wanted_by m actor) id ⊎ IsFreeHead m.store id) st
-  joined = brings_wider m _ _ st either (brings_numbered m _ st numbered (brings_joined m (IsWantedPage (wanted_by m actor)) (λ id. id ≡ c.store.meta.free) c.store st c.uses come.brings second shown_before))
+  joined = brings_wider m _ _ st either (brings_numbered m _ st numbered (brings_joined m (IsWantedPage (wanted_by m actor)) (λ id. id ≡ c.store.meta.free) come.may.goes_on.kept.latches_fit c.store st c.uses come.brings second shown_before))
 
   shown : (uses : List Use) → ShowsMachine e (with_order_of_use uses (with_store st c)) (with_uses uses then)
-  shown uses = shows_store now d e c failed st come.shows looks uses
+  shown = shows_store now d e c failed st come.shows looks (same_held m _ st joined come.may.goes_on.kept.latches_fit ∙ sym (same_held m _ c.store come.brings come.may.goes_on.kept.latches_fit))
 
   meta_then : st.meta ≡ c.store.meta
   meta_then = (ap (λ (s : StoreState). s.meta) second.rest)

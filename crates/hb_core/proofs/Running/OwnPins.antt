@@ -19,7 +19,7 @@ module _ (m : Machine) (actor : ℕ) (may : IsActor actor) (keeps : MachineKeeps
   pub walk_live : IsSome (walk_held (m.activity actor)) → IsSome (option_and_then (live_here m.store) (walk_held (m.activity actor)))
   walk_live walks =
       let held = some_value (walk_held (m.activity actor)) walks in
-      let there = keeps.latches_fit.walking actor held.0 may held.1 in
+      let there = keeps.latches_fit.walking actor held.0 held.1 in
       subst (λ (o : Option ℕ). IsSome (option_and_then (live_here m.store) o)) (sym held.1) (has_value (live_here m.store held.0) there.0 (ap if_live there.1))
 
 -- the same of a core that shows the machine

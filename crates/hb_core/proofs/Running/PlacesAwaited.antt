@@ -4,7 +4,7 @@ use Rattle.hb_activity.specs.declared.activities.Activity.{Activity}
 use Rattle.hb_activity.specs.declared.activities.Activity.TheVariants as at
 use Rattle.hb_activity.specs.Deeds.{answers_now}
 use Rattle.hb_disk.specs.Model.{DiskModel}
-use Rattle.hb_latch.specs.Tables.{LatchTable, mode_at}
+use Rattle.hb_latch.specs.Tables.{mode_at, HeldModes}
 use Rattle.hb_space.specs.Actors.{IsActor}
 use Rattle.hb_set.specs.declared.commands.Reply.{Reply}
 use Rattle.hb_pool.specs.Frames.{Use}
@@ -36,7 +36,7 @@ awaits_as d c m actor number place reply may step stands = stands_as d c m actor
 -- who awaits its place holds no latch
 no_latch : (d : DiskModel) (c : RunningCore) (m : Machine) (actor number place : ℕ) (reply : Reply) → IsActor actor → MayStep d c m → m.activity actor ≡ at.SessionAwait number reply place → (page : ℕ) → mode_at c.latches actor page ≡ None
 no_latch d c m actor number place reply may step is page =
-    ap (λ (t : LatchTable). mode_at t actor page) (sym step.shows.latches) ∙ step.goes_on.kept.latches_fit.exact actor page may ∙ ap (λ (a : Activity). mode_among page (latches_held m.store a)) is
+    ap (λ (t : HeldModes). t actor page) (sym step.shows.latches) ∙ ap (λ (a : Activity). mode_among page (latches_held m.store a)) is
 
 module _ {D : Type 0} (model : D → DiskModel) (x y : D) (c : RunningCore) (m : Machine) (actor number place settled : ℕ) (reply : Reply) (step : MayStep (model x) c m) (is_settled : settled ≡ mark_of c.store.log.groups (length c.order)) where
   pub await_answered : (after : RunningCore) (outcome : Outcome) → IsActor actor → m.activity actor ≡ at.SessionAwait number reply place → place < settled → outcome ≡ outcomes.Answered number reply → after ≡ with_standing actor at.SessionIdle c → y ≡ x

@@ -41,7 +41,7 @@ module _ (m : Machine) (d : DiskModel) (c : RunningCore) (actor : ℕ) (free : O
   pub held_stays : (id : ℕ) (mode : Mode) → mode_among id (latches_held m.store (m.activity actor)) ≡ Some mode → StaysHere c.uses id
   held_stays id mode is =
       must_here m c.store c.uses has.may.goes_on.kept (ap (λ (s : StoreState). s.dirty) has.brings.rest) has.tied (λ q. let more = pinned_so.pins q in omega (arith, more)) id
-      (inl (actor, mode, has.may.goes_on.kept.latches_fit.exact actor id may ∙ is))
+      (inl (actor, mode, is))
 
   abbrev ReadsStay : Option Op → Type 0
   ReadsStay None = Unit {0}

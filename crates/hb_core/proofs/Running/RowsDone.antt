@@ -1,5 +1,6 @@
 -- A row for which a core has its pages is done, or memory is refused to it.
 use Rattle.std.proofs.Common.{◌≡◌, ◌⊎◌, inl, inr, ℕ, suc, zero, ◌-◌, ◌++◌, arith, true, false, Bool, List, [], ◌∷◌, length, slice_set, Option, Some, None, IsSome, refl, sym, ap, ◌∙◌, subst}
+use Rattle.hb_core.proofs.Memory.OwnPages.{row_held}
 use Rattle.std.specs.Option.{MatchOption, is_some}
 use Rattle.std.proofs.lemmas.Bool.{cases_Bool}
 use Rattle.hb_activity.specs.declared.activities.Activity.{Activity}
@@ -50,7 +51,7 @@ set_twice (z ∷ xs) (suc n) x y = ap (λ (l : List _). z ∷ l) (set_twice xs n
 
 -- a core shows a machine with another order of use, where it has that
 pub shows_with : (d : DiskModel) (c : RunningCore) (uses : List Use) (n : Machine) → ShowsMachine d c n → ShowsMachine d (with_order_of_use uses c) (with_uses uses n)
-shows_with d c uses n shows = shown_with d d c c.store uses n shows n.store uses n.files n.clock shows.store refl (λ told. let s = shows.tells told in record { files = s.files; told = s.told; kept = s.kept; clock = s.clock }) shows.silent
+shows_with d c uses n shows = shown_with d d c c.store uses n shows n.store uses n.files n.clock refl shows.store refl (λ told. let s = shows.tells told in record { files = s.files; told = s.told; kept = s.kept; clock = s.clock }) shows.silent
 
 -- a number that is given is one that the row needs
 needed : (N : Type 0) (given : ℕ × ℕ → Type 0) (free : Option (ℕ × ℕ)) → MatchOption free (¬ N) (λ next. N × given next) → IsSome free → N
@@ -154,7 +155,8 @@ module _ (d : DiskModel) (c : RunningCore) (m : Machine) (actor : ℕ) (free : O
     pub row_done : (pins : List ℕ) (outcome : Outcome) (after : RunningCore) → pins ≡ page_wanted (wanted_by m actor) ++ pages_of (latches_held m.store (m.activity actor)) → DoesDeed actor pins deed outcome idled after
         → KeepsFilesBy next.op d c.store d after.store → (new : Machine) × DoesRow m actor outcome new × ShowsMachine d after new
     row_done pins outcome after pinned does keeps =
-        let done = deed_shows d idled after m actor deed outcome may shows_idled pins does (must_stays m d c actor free may pages) pages.may.goes_on.kept.lines_in_sequence
+        let done = deed_shows d idled after m actor deed outcome may shows_idled pins does (must_stays m d c actor free may pages) _ pages.may.goes_on.kept.latches_fit pages.brings
+        (row_held m actor _ c.store may pages.may.goes_on.kept.latches_fit pages.may.goes_on.kept.pages_of_file pages.may.free pages.brings deed (row_there d c m actor free may pages next row) outcome _) pages.may.goes_on.kept.lines_in_sequence
         (row_number m c.store (m.activity actor) (wanted_by m actor) deed pages.may.working (row_there d c m actor free may pages next row)) keeps in (
           done.0,
           record {

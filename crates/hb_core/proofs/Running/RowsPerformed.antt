@@ -1,5 +1,6 @@
 -- What a core performs by its decider's answer is the row of the machine that it shows.
 use Rattle.std.proofs.Common.{◌≡◌, ℕ, ◌<◌, ◌^◌, ◌++◌, List, length, arith, Option, IsSome, IfSome, IfOk, Result, Ok, Err, sym, ap, ◌∙◌, subst}
+use Rattle.hb_latch.specs.Tables.{mode_at}
 use Rattle.hb_activity.specs.declared.activities.Activity.{Activity}
 use Rattle.hb_activity.specs.declared.wanting.Wanted.{Wanted}
 use Rattle.hb_activity.specs.declared.deciding.Next.{Next}
@@ -71,8 +72,8 @@ module _ {D : Type 0} (model : D → DiskModel) (x y : D) (c between : RunningCo
         (subst (λ (k : D). OneDurable (model k) c.store) same (subst (λ (s : RunningCore). OneDurable (model y) s.store) rest one_durable))
         (subst (λ (k : D). OneLater (model k) c.store) same (subst (λ (s : RunningCore). OneLater (model y) s.store) rest one_later))))
 
-    pub row_may_stand : (st : StoreState) → MayDo next.op (length between.order) between.store st → MayStand actor between.latches st (placed_at (length between.order) next.then)
-    row_may_stand = subst (λ (s : RunningCore). (st : StoreState) → MayDo next.op (length s.order) s.store st → MayStand actor s.latches st (placed_at (length s.order) next.then)) (sym rest)
+    pub row_may_stand : (st : StoreState) → MayDo next.op (length between.order) between.store st → MayStand actor (mode_at between.latches) st (placed_at (length between.order) next.then)
+    row_may_stand = subst (λ (s : RunningCore). (st : StoreState) → MayDo next.op (length s.order) s.store st → MayStand actor (mode_at s.latches) st (placed_at (length s.order) next.then)) (sym rest)
         (stands_after (model x) c m actor free may pages next row)
 
     -- its pins can go over

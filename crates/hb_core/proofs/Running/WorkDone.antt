@@ -8,7 +8,7 @@ use Rattle.hb_activity.specs.Wanting.{may_commit}
 use Rattle.hb_activity.specs.Classes.{Hand, Empty, HasJob, HasLine, class_of, hand_of, idle_of}
 use Rattle.hb_activity.specs.Deeds.{Deed}
 use Rattle.hb_disk.specs.Model.{DiskModel}
-use Rattle.hb_latch.specs.Tables.{IsGrantable, IsLeastInTheWay, LatchTable}
+use Rattle.hb_latch.specs.Tables.{IsGrantable, IsLeastInTheWay, mode_at, HeldModes}
 use Rattle.hb_space.specs.Actors.{IsActor}
 use Rattle.hb_store.specs.declared.stops.StopWhy.{StopWhy}
 use Rattle.hb_store.specs.declared.stops.StopWhy.TheVariants.{Damaged, WriteFault}
@@ -34,7 +34,7 @@ use Rattle.hb_core.specs.Showing.{RunningCore, ShowsMachine, number_in_hand}
 use Rattle.hb_core.specs.Steps.{IsUnready, Works}
 use Rattle.hb_core.specs.Going.{IsWorking, MayWork}
 use Rattle.hb_core.specs.Working.{Halts, MayStep, with_memory}
-use Rattle.hb_core.proofs.Running.DeedShows.{deed_shows}
+use Rattle.hb_core.proofs.Running.DeedShows.{deed_shows, nothing_moves}
 use Rattle.hb_core.proofs.Running.ForcedShows.{shown_stopped}
 use Rattle.hb_core.proofs.Running.LineTaken.{keeps_none}
 use Rattle.hb_core.proofs.Running.Looks.{may_look_now}
@@ -62,15 +62,15 @@ module _ (d : DiskModel) (c : RunningCore) (m : Machine) (actor : ℕ) (may : Is
   holds_pages pins is = is (m.activity actor) stands ∙ ap (λ (st : StoreState). pages_of (latches_held st (m.activity actor))) (sym step.shows.store)
 
   -- another actor is in the way, and the core stays so
-  pub blocked : (wanted : Option Wanted) (by : ℕ) → wanted ≡ wanted_by m actor → IsSomeAnd wanted (λ w. IsLeastInTheWay c.latches actor w.page w.mode by) → (new : Machine) × Works m actor (outcomes.Blocked by) new × ShowsMachine d c new
+  pub blocked : (wanted : Option Wanted) (by : ℕ) → wanted ≡ wanted_by m actor → IsSomeAnd wanted (λ w. IsLeastInTheWay (mode_at c.latches) actor w.page w.mode by) → (new : Machine) × Works m actor (outcomes.Blocked by) new × ShowsMachine d c new
   blocked wanted by is least =
-      let its = subst (λ (o : Option Wanted). IsSomeAnd o (λ w. IsLeastInTheWay c.latches actor w.page w.mode by)) is least in
-      (m, inl (by, subst (λ (t : LatchTable). IsSomeAnd (wanted_by m actor) (λ w. IsLeastInTheWay t actor w.page w.mode by)) (sym step.shows.latches) its, (refl, refl)), step.shows)
+      let its = subst (λ (o : Option Wanted). IsSomeAnd o (λ w. IsLeastInTheWay (mode_at c.latches) actor w.page w.mode by)) is least in
+      (m, inl (by, subst (λ (t : HeldModes). IsSomeAnd (wanted_by m actor) (λ w. IsLeastInTheWay t actor w.page w.mode by)) (sym step.shows.latches) its, (refl, refl)), step.shows)
 
-  pub way_free : (wanted : Option Wanted) → wanted ≡ wanted_by m actor → IfSome wanted (λ w. IsGrantable c.latches actor w.page w.mode) → HasWayFree m actor
+  pub way_free : (wanted : Option Wanted) → wanted ≡ wanted_by m actor → IfSome wanted (λ w. IsGrantable (mode_at c.latches) actor w.page w.mode) → HasWayFree m actor
   way_free wanted is free =
-      subst (λ (t : LatchTable). IfSome (wanted_by m actor) (λ w. IsGrantable t actor w.page w.mode)) (sym step.shows.latches)
-      (subst (λ (o : Option Wanted). IfSome o (λ w. IsGrantable c.latches actor w.page w.mode)) is free)
+      subst (λ (t : HeldModes). IfSome (wanted_by m actor) (λ w. IsGrantable t actor w.page w.mode)) (sym step.shows.latches)
+      (subst (λ (o : Option Wanted). IfSome o (λ w. IsGrantable (mode_at c.latches) actor w.page w.mode)) is free)
 
   -- what says whether log and memory are ready
   abbrev pub SaysUnready : Option Wanted → Bool → Type 0
@@ -99,7 +99,7 @@ module _ (d : DiskModel) (c : RunningCore) (m : Machine) (actor : ℕ) (may : Is
 
 -- so it may work, by what the calls said
 pub may_work : (d : DiskModel) (c : RunningCore) (m : Machine) (actor : ℕ) (may : IsActor actor) (step : MayStep d c m) (wanted : Option Wanted) (b : Bool) → m.stop ≡ None → IsWorking (m.activity actor)
-    → ((activity : Activity) → StandsAs c actor activity → wanted ≡ wanted_in c.store activity) → IfSome wanted (λ w. IsGrantable c.latches actor w.page w.mode) → SaysUnready d c m actor may step wanted b → b ≡ false → MayWork m actor
+    → ((activity : Activity) → StandsAs c actor activity → wanted ≡ wanted_in c.store activity) → IfSome wanted (λ w. IsGrantable (mode_at c.latches) actor w.page w.mode) → SaysUnready d c m actor may step wanted b → b ≡ false → MayWork m actor
 may_work d c m actor may step wanted b runs works wants_so free says is =
     works_may d c m actor may step runs works (way_free d c m actor may step wanted (wants d c m actor may step wanted wants_so) free) (ready d c m actor may step wanted b (wants d c m actor may step wanted wants_so) says is)
 
@@ -124,7 +124,7 @@ module _ {D : Type 0} (model : D → DiskModel) (x y : D) (c after : RunningCore
       let same_pins = came_stays (wanted_by m actor) m.store.meta m.uses c.uses work.goes_on.kept.frames_fit.tied.pool.distinct halts.used_is in
       let stay : (id : ℕ) → MustStay m id → StaysHere c.uses id = must_here m c.store c.uses work.goes_on.kept (ap (λ (s : StoreState). s.dirty) halts.brings.rest) halts.tied (λ q. let pins = same_pins.pins q in omega (arith, pins)) in
       let none : deed.op ≡ None = no_operation why (idle_of (class_of (m.activity actor))) (hand_of (m.activity actor)) in
-      let shown = deed_shows (model x) c after m actor deed outcome may halts.shows pins done stay work.goes_on.kept.lines_in_sequence (given_up_number m why (m.activity actor) work.working)
+      let shown = deed_shows (model x) c after m actor deed outcome may halts.shows pins done stay _ work.goes_on.kept.latches_fit halts.brings (nothing_moves m _ c.store deed actor outcome _ halts.brings none) work.goes_on.kept.lines_in_sequence (given_up_number m why (m.activity actor) work.working)
       (keeps_none (model x) c.store after.store _ deed.op none done.store) in (
         shown.0,
         inr (inr (work.free, work.ready, inr (inl (record { why = why; fetched = c.store; brings = halts.brings; cause = halts.cause; performs = shown.1.0; came = subst (CameFor (wanted_by m actor) m.store.meta m.uses) (sym shown.1.1) halts.used_is; pins = shown.1.2 ∙ pinned })))),

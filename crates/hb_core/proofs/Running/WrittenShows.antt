@@ -34,7 +34,7 @@ module _ (d e : DiskModel) (c : RunningCore) (st : StoreState) (uses : List Use)
       let stays = looks.only.stays in
       let store : m.store ≡ st = shows.store ∙ ap (λ (h : StoreHeld). h.state) (sym same) in
       let used : m.uses ≡ uses = shows.uses ∙ ap (λ (h : StoreHeld). h.uses) (sym same) in
-      shown_with d e c st uses m shows m.store m.uses m.files m.clock store used
+      shown_with d e c st uses m shows m.store m.uses m.files m.clock refl store used
       (λ told.
       let had = shows.tells (subst (λ (o : Option (List ℕ)). IsSome o) stays.told told) in
       record {
@@ -58,7 +58,7 @@ module _ (d e : DiskModel) (c : RunningCore) (st : StoreState) (uses : List Use)
     writes_well due writes = (
       written,
       record { says = refl; leaves = refl },
-      shown_with d e c st uses m shows (cleaned_state id m.store) (in_place id clean m.uses) m.files (m.clock + 1) store used
+      shown_with d e c st uses m shows (cleaned_state id m.store) (in_place id clean m.uses) m.files (m.clock + 1) refl store used
           (λ told.
           let was = was_some d.told e.told writes.wrote.became.silent told in
           let had = shows.tells was in
@@ -94,7 +94,7 @@ module _ (d e : DiskModel) (c : RunningCore) (st : StoreState) (uses : List Use)
     turns_well due switches = (
       turned,
       record { says = refl; leaves = refl },
-      shown_with d e c st uses m shows (switched_state m.store) m.uses m.files (m.clock + 9) store used
+      shown_with d e c st uses m shows (switched_state m.store) m.uses m.files (m.clock + 9) refl store used
           (λ told.
           let was = was_some d.told e.told switches.wrote.became.silent told in
           let had = shows.tells was in

@@ -39,7 +39,7 @@ use Rattle.hb_core.proofs.Searches.SortedRecords.{reply_is}
 use Rattle.hb_core.proofs.Table.DeedKinds.{each_deed}
 use Rattle.hb_core.proofs.Table.LineFates.{given_up_joins_nothing}
 use Rattle.hb_core.proofs.Table.StepSays.{each_saying}
-use Rattle.hb_core.proofs.Facts.Ways.{KeepsAllButDisk, others_stay, own_next}
+use Rattle.hb_core.proofs.Facts.Ways.{KeepsAllButDisk, others_stand, own_next}
 use Rattle.hb_core.specs.Acting.{DoesRow}
 use Rattle.hb_core.specs.Asking.{wanted_by}
 use Rattle.hb_core.specs.Fetching.{Brings}
@@ -309,7 +309,7 @@ module _ (points : HeldArePoints) (standing : StandingIsContents) (lacking : Lac
 
     pub other_exact : (other : ℕ) → other ≢ actor → new.activity other ≡ at.SessionWalk line held rest found → StepsTo m actor outcome new → Exact
     other_exact other another walks step =
-        let before : m.activity other ≡ at.SessionWalk line held rest found = sym (others_stay m actor outcome new step other another).0 ∙ walks in
+        let before : m.activity other ≡ at.SessionWalk line held rest found = sym (others_stand m actor outcome new step other another) ∙ walks in
         moved (contents_now files) (contents_now after) box rest found (other_agrees m files after actor outcome new kept stays other line held rest found box another before command) (exact other line held rest found box before command)
 
 module _ (points : HeldArePoints) (standing : StandingIsContents) (lacking : LackIsContents) where

@@ -27,12 +27,12 @@ use Rattle.hb_core.specs.Acting.{Abandons, DoesRow, MeetsBadPage}
 use Rattle.hb_core.specs.Asking.{wanted_by}
 use Rattle.hb_core.specs.Forcing.{BeginsTurn, FailsToWrite, Flushes, FlushesOnce, FlushesRest, ForcesAll, HasDirtyPage, StaysSo, WritesOldest}
 use Rattle.hb_core.specs.Locking.{IsBoxInTheWay}
-use Rattle.hb_core.specs.Machines.{Machine, with_disk, with_uses}
+use Rattle.hb_core.specs.Machines.{Machine, with_disk, with_uses, modes}
 use Rattle.hb_core.specs.OutcomeLaws.{IsTurnedAside}
 use Rattle.hb_core.specs.Performing.{ChangesQueue, PerformsAsItIs}
 use Rattle.hb_core.specs.Steps.{BeginsLine, TakesJob, TakesMerging, AwaitsPlace, GetsReady, StepsAs, StepsTo, TakesJobToMerge, TakesPosting, Works}
 use Rattle.hb_latch.specs.Modes.{goes_beside}
-use Rattle.hb_latch.specs.Tables.{IsGrantable, IsLeastInTheWay, LatchTable, mode_at}
+use Rattle.hb_latch.specs.Tables.{IsGrantable, IsLeastInTheWay, HeldModes}
 use Rattle.hb_point.specs.SessionRows.{next_line, taking}
 use Rattle.hb_pool.specs.Frames.{clean}
 use Rattle.hb_pool.specs.Pools.{in_place}
@@ -41,8 +41,8 @@ use Rattle.hb_poster.specs.PosterRows.{IsPostingOf}
 
 -- ---- the least actor in the way is one, and where one is the way isn't free
 
-module _ (table : LatchTable) (actor : ℕ) where
-  one_least : (wanted : Option Wanted) (by other : ℕ) → IsSomeAnd wanted (λ w. IsLeastInTheWay table actor w.page w.mode by) → IsSomeAnd wanted (λ w. IsLeastInTheWay table actor w.page w.mode other) → by ≡ other
+module _ (modes : HeldModes) (actor : ℕ) where
+  one_least : (wanted : Option Wanted) (by other : ℕ) → IsSomeAnd wanted (λ w. IsLeastInTheWay modes actor w.page w.mode by) → IsSomeAnd wanted (λ w. IsLeastInTheWay modes actor w.page w.mode other) → by ≡ other
   one_least None by other none least = absurd none
   one_least (Some w) by other first second = elim (cases_lt by other) [
     | inl lt ↦ absurd (second.least by lt first.keeps)
@@ -52,9 +52,9 @@ module _ (table : LatchTable) (actor : ℕ) where
     ]
   ]
 
-  not_free : (wanted : Option Wanted) (by : ℕ) → IsSomeAnd wanted (λ w. IsLeastInTheWay table actor w.page w.mode by) → IfSome wanted (λ w. IsGrantable table actor w.page w.mode) → ⊥
+  not_free : (wanted : Option Wanted) (by : ℕ) → IsSomeAnd wanted (λ w. IsLeastInTheWay modes actor w.page w.mode by) → IfSome wanted (λ w. IsGrantable modes actor w.page w.mode) → ⊥
   not_free None by none free = none
-  not_free (Some w) by least free = not_both (mode_at table by w.page) (λ held. IsTrue (goes_beside w.mode held)) least.keeps.conflict (free by least.keeps.another)
+  not_free (Some w) by least free = not_both (modes by w.page) (λ held. IsTrue (goes_beside w.mode held)) least.keeps.conflict (free by least.keeps.another)
 
 one_in_the_way : (m : Machine) (actor : ℕ) (lock : BoxLock) (by other : ℕ) → IsBoxInTheWay m actor lock by → IsBoxInTheWay m actor lock other → by ≡ other
 one_in_the_way m actor lock by other first second = elim (cases_lt by other) [
@@ -147,12 +147,12 @@ module _ (m : Machine) (actor : ℕ) (outcome other : Outcome) (new next : Machi
 
   both_work : Works m actor outcome new → Works m actor other next → G
   both_work (inl (by, way, first)) (inl (by', way', second)) =
-      let same = one_least m.latches actor (wanted_by m actor) by by' way way' in
+      let same = one_least (modes m) actor (wanted_by m actor) by by' way way' in
       both_stay (outcomes.Blocked by) first (subst (λ (n : ℕ). StaysSo m (outcomes.Blocked n) other next) (sym same) second)
-  both_work (inl (by, way, first)) (inr (inl (free, ready, rest))) = absurd (not_free m.latches actor (wanted_by m actor) by way free)
-  both_work (inl (by, way, first)) (inr (inr (free, ready, rest))) = absurd (not_free m.latches actor (wanted_by m actor) by way free)
-  both_work (inr (inl (free, ready, rest))) (inl (by, way, second)) = absurd (not_free m.latches actor (wanted_by m actor) by way free)
-  both_work (inr (inr (free, ready, rest))) (inl (by, way, second)) = absurd (not_free m.latches actor (wanted_by m actor) by way free)
+  both_work (inl (by, way, first)) (inr (inl (free, ready, rest))) = absurd (not_free (modes m) actor (wanted_by m actor) by way free)
+  both_work (inl (by, way, first)) (inr (inr (free, ready, rest))) = absurd (not_free (modes m) actor (wanted_by m actor) by way free)
+  both_work (inr (inl (free, ready, rest))) (inl (by, way, second)) = absurd (not_free (modes m) actor (wanted_by m actor) by way free)
+  both_work (inr (inr (free, ready, rest))) (inl (by, way, second)) = absurd (not_free (modes m) actor (wanted_by m actor) by way free)
   both_work (inr (inl (free, unready, first))) (inr (inl (free', unready', second))) = both_get_ready first second
   both_work (inr (inl (free, unready, first))) (inr (inr (free', ready, second))) = absurd (ready unready)
   both_work (inr (inr (free, ready, first))) (inr (inl (free', unready, second))) = absurd (ready unready)

@@ -1,6 +1,6 @@
 -- A deed that is done over two fetches from one machine leads to machines that are one.
 use Rattle.std.proofs.Common.{◌≡◌, ◌⊎◌, inl, inr, ℕ, ◌==◌, Bool, true, false, cond, ◌||◌, ◌++◌, List, [], ◌∷◌, length, map, Option, Some, None, IfSome, refl, sym, ap, ◌∙◌, subst}
-use Rattle.std.proofs.lemmas.Bool.{cases_eq, false≢true}
+use Rattle.std.proofs.lemmas.Bool.{false≢true}
 use Rattle.std.proofs.lemmas.Cmp.{nat_cmp_total}
 use Rattle.std.proofs.lemmas.Option.{same_Some}
 use Rattle.std.specs.Option.{is_some, option_and_then}
@@ -20,9 +20,8 @@ use Rattle.hb_core.proofs.TwoSteps.OneFetch.{Agree}
 use Rattle.hb_core.proofs.TwoSteps.OnePiece.{one_queue}
 use Rattle.hb_core.specs.Machines.{Machine, live_here}
 use Rattle.hb_core.specs.OutcomeLaws.{AreOne}
-use Rattle.hb_core.specs.Performing.{DoesOp, MayDo, Performs, latches_held, mode_among}
+use Rattle.hb_core.specs.Performing.{DoesOp, MayDo, Performs, latches_held}
 use Rattle.hb_core.specs.Using.{pages_of, use_done, use_held}
-use Rattle.hb_latch.specs.Tables.{mode_at}
 use Rattle.hb_log_codec.specs.Groups.{Logged, group_bytes}
 use Rattle.hb_ops.specs.Files.{if_live}
 use Rattle.hb_ops.specs.Operations.{Change, IsAllowedOn, change_of, reads_of}
@@ -44,7 +43,6 @@ one_of_same new next is = subst (AreOne new) is (record {
   lines = refl;
   answered = refl;
   activity = λ actor. refl;
-  latches = λ actor page. refl;
   jobs = refl;
   order = refl;
   stop = refl;
@@ -262,11 +260,6 @@ module _ (f g : StoreState) (alike : KeepsAllButPages f g) (agree : Agree f g) w
         lines = first.lines ∙ sym second.lines;
         answered = first.answered ∙ sym second.answered;
         activity = λ who. first.activity who ∙ sym (second.activity who);
-        latches = λ who page. elim (cases_eq who actor) [
-          | inl is ↦ subst (λ (w : ℕ). mode_at new.latches w page ≡ mode_at next.latches w page) (sym is)
-              (first.latches.own page ∙ ap (λ (l : List Latch). mode_among page l) latches ∙ sym (second.latches.own page))
-          | inr another ↦ first.latches.others who page another ∙ sym (second.latches.others who page another)
-        ];
         jobs = one_queue deed m.jobs new.jobs next.jobs first.jobs second.jobs;
         order = first.order ∙ sym second.order;
         stop = first.stop ∙ sym second.stop;

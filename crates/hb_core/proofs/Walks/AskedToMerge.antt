@@ -1,6 +1,7 @@
 -- The decider of the consolidator may be asked at the page that a kept machine's step has at hand.
+use Rattle.hb_core.proofs.Machines.LatchesApart.{pair_apart}
+use Rattle.hb_core.proofs.Memory.BroughtPages.{held_come}
 use Rattle.std.proofs.Common.{◌≡◌, ◌≢◌, inr, ℕ, ◌≤◌, ◌∷◌, [], Option, Some, None, IfSome, IsSome, refl, sym, ap, ◌∙◌, subst, arith}
-use Rattle.std.proofs.lemmas.Option.{same_Some}
 use Rattle.hb_frag.specs.declared.pages.LivePage.{LivePage}
 use Rattle.hb_ops.specs.Sound.{FitsFile}
 use Rattle.hb_space.specs.Actors.{IsActor}
@@ -34,18 +35,10 @@ merger_walks_may_be_asked m actor fetched job held wanted page may keeps brings 
     let some = fits.level in
     subst (λ (a : Activity). MayAskToMerge a m.store.meta page None None) (sym is) (record { above = omega (arith, above, level, some); held = has })
 
--- the page to keep is of another level than the parent, and so another page
-pub pair_apart : (st : StoreState) (job : Job) (parent : ℕ) (names : _) (pair : PairHeld) → NamesKnown st (record { job = job; parent = parent; known = names; pair = Some pair }) → parent ≢ pair.keep
-pair_apart st job parent names pair known same =
-    let one : known.page ≡ known.pair.page = same_Some known.page known.pair.page (sym known.live ∙ ap (live_here st) same ∙ known.pair.live) in
-    let levels = ap (λ (page : LivePage). page.level) one in
-    let below = known.pair.level in
-    omega (arith, levels, below)
-
 module _ (m : Machine) (actor : ℕ) (fetched : StoreState) (may : IsActor actor) (keeps : MachineKeeps m) (brings : Brings m AnyPage fetched) where
   -- what the consolidator knows is still known once pages came
   pub known_there : (place : AtParent) → merging_at (m.activity actor) ≡ Some place → NamesKnown fetched place
-  known_there place at_place = names_still m.store fetched place (known_at m actor keeps.walk_in_space place at_place) (place_stays m AnyPage fetched brings actor keeps.latches_fit may place at_place)
+  known_there place at_place = names_still m.store fetched place (known_at m actor keeps.walk_in_space place at_place) (place_stays m actor fetched (held_come m AnyPage fetched brings actor) place at_place)
 
   fits : (id : ℕ) (page : LivePage) → live_here fetched id ≡ Some page → FitsFile m.store.meta page
   fits id page live = (pages_at_hand_fit m fetched id page keeps brings live).1

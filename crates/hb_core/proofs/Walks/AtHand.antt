@@ -25,7 +25,7 @@ use Rattle.hb_activity.specs.Wanting.{child_of, in_mode, named_child, named_page
 use Rattle.hb_consol.specs.ConsolidatorRows.{names_child}
 use Rattle.hb_core.proofs.Files.AskedPages.{first_among, first_box_among, leaf_of_place}
 use Rattle.hb_core.proofs.Memory.BroughtPages.{own_there}
-use Rattle.hb_core.proofs.Latches.LatchesStay.{walk_latched}
+use Rattle.hb_core.proofs.Latches.SameLatches.{walk_latched}
 use Rattle.hb_core.proofs.Table.MergerMoves.{of_page}
 use Rattle.hb_core.proofs.Walks.MergesKept.{above_records, place_latched, known_at}
 use Rattle.hb_ops.proofs.Facts.Volumes.{sibling_fewer}
@@ -167,7 +167,7 @@ module _ (m : Machine) (actor : ℕ) (fetched : StoreState) (may : IsActor actor
     -- an actor that walks
     of_walk : (held : ℕ) (its : ℕ → Mode) → walk_held (m.activity actor) ≡ Some held → mode_among wanted.page (walk_latch (Some held) (live_here m.store held) its) ≡ None
     of_walk held its walks =
-        let one = keeps.latches_fit.walking actor held may walks in
+        let one = keeps.latches_fit.walking actor held walks in
         let live : live_here m.store held ≡ Some one.0 = ap if_live one.1 in
         let latch = walk_latched (m.activity actor) m.store held one.0 walks live in
         let later = leads held one.0 wanted page live (walked_there held one.0 walks live) hand.level (m.activity actor) walks wants_it hand.box in
@@ -261,6 +261,6 @@ walks_lead_on m actor fetched held before wanted page may keeps brings walks liv
 
 pub no_page_is_latched_twice : NoPageIsLatchedTwice
 no_page_is_latched_twice m actor fetched wanted page may keeps brings wants hand = elim (alone m actor fetched may keeps brings wanted page wants hand (m.activity actor) refl wants hand.box) [
-  | inl none ↦ inl (keeps.latches_fit.exact actor wanted.page may ∙ none)
+  | inl none ↦ inl none
   | inr promotes ↦ inr promotes
 ]

@@ -125,7 +125,7 @@ module _ (m : Machine) (files : Files) (actor id : ℕ) (mode : Mode) (wanted : 
   of_walk : (held : ℕ) (goal : Option (List ℕ)) (its : ℕ → Mode) (page : Option LivePage) → walk_held (m.activity actor) ≡ Some held → in_mode its (walk_next goal (Some held) m.store.meta (live_here m.store held)) ≡ Some wanted
       → mode_among id (walk_latch (Some held) page its) ≡ Some mode → Comes
   of_walk held goal its page walking wants holds =
-      let one = fit.walking actor held may walking in
+      let one = fit.walking actor held walking in
       inl (subst (λ (q : ℕ). ComesLater (current_file files) q wanted.page) (walk_among held page its id mode holds)
       (walk_later (current_file files) (file_sound m files has) held one.0 (shown_live m.store (current_file files) has.shown held one.0 (ap if_live one.1)) its m.store.meta goal (live_here m.store held) wanted (ap if_live one.1) wants))
 
@@ -202,4 +202,4 @@ module _ (m : Machine) (files : Files) (actor id : ℕ) (mode : Mode) (wanted : 
 
 pub wanted_comes_later : WantedComesLater
 wanted_comes_later m files actor id mode wanted may fit has walks wants holds =
-    comes m files actor id mode wanted may fit has walks (m.activity actor) refl wants (sym (fit.exact actor id may) ∙ holds)
+    comes m files actor id mode wanted may fit has walks (m.activity actor) refl wants holds

@@ -14,7 +14,7 @@ use Rattle.hb_core.specs.Asking.{IsInTheWay, looked_live}
 use Rattle.hb_core.specs.Keeps.{HasNobodyElse}
 use Rattle.hb_boxlock.specs.Locking.{Excludes}
 use Rattle.hb_core.specs.Locking.{LocksOut}
-use Rattle.hb_core.specs.Machines.{Machine}
+use Rattle.hb_core.specs.Machines.{Machine, modes}
 use Rattle.hb_core.specs.SteppingLaws.{IsAtRest}
 use Rattle.hb_core.specs.WaitingLaws.{HasWorkLeft, IsKeptBack, IsKeptWaiting, IsUnderWay, LockHoldersWork, SomebodyUnderWayGoesOn}
 
@@ -39,7 +39,7 @@ lock_holders_work m actor other nobody awaits = awaits_holder m actor other (nex
 
 -- an idle session wants no latch
 idle_wants_none : (m : Machine) (actor by : ℕ) → m.activity actor ≡ at.SessionIdle → IsInTheWay m actor by → ⊥
-idle_wants_none m actor by idle way = subst (λ (a : Activity). IsSomeAnd (wanted_of a m.store.meta (looked_live m.store a)) (λ wanted. IsLeastInTheWay m.latches actor wanted.page wanted.mode by)) idle way
+idle_wants_none m actor by idle way = subst (λ (a : Activity). IsSomeAnd (wanted_of a m.store.meta (looked_live m.store a)) (λ wanted. IsLeastInTheWay (modes m) actor wanted.page wanted.mode by)) idle way
 
 -- one at work isn't kept back by a box
 works_by_latch : (m : Machine) (actor : ℕ) → HasWorkLeft m actor → IsKeptBack m actor → IsKeptWaiting m actor
@@ -47,10 +47,10 @@ works_by_latch m actor works (inl kept) = kept
 works_by_latch m actor works (inr (by, awaits)) = absurd (works.1 (subst IsAtRest (sym awaits.idle) tt))
 
 pub somebody_under_way_goes_on : SomebodyUnderWayGoesOn
-somebody_under_way_goes_on m files actor fit has nobody none_else walks under kept = by_kind under
+somebody_under_way_goes_on m files actor fit has nobody walks under kept = by_kind under
   where
     stuck : (other : ℕ) → HasWorkLeft m other → ⊥
-    stuck other works = somebody_goes_on m files other fit has nobody none_else walks works (λ one busy. works_by_latch m one busy (kept one (inl busy)))
+    stuck other works = somebody_goes_on m files other fit has nobody walks works (λ one busy. works_by_latch m one busy (kept one (inl busy)))
 
     by_kept : m.activity actor ≡ at.SessionIdle → IsKeptBack m actor → ⊥
     by_kept idle (inl (by, way)) = idle_wants_none m actor by idle way

@@ -117,7 +117,7 @@ module _ (m : Machine) (actor : ℕ) (fetched : StoreState) (may : IsActor actor
 
   stays_held : (id : ℕ) → walk_held (m.activity actor) ≡ Some id → StaysHeld id
   stays_held id walks =
-      let one = keeps.latches_fit.walking actor id may walks in
+      let one = keeps.latches_fit.walking actor id walks in
       let live : live_here m.store id ≡ Some one.0 = ap if_live one.1 in
       record { before = one.0; live = live; there = walked_there m actor fetched may keeps brings id one.0 walks live }
 

@@ -1,5 +1,6 @@
 -- The parent at which a consolidator stands names the pages that it knows, after each of its rows, and while another one steps.
 use Rattle.std.proofs.Common.{◌≡◌, ◌⊎◌, inl, inr, ℕ, suc, ◌+◌, ◌-◌, ◌<◌, ◌==◌, not, ◌&&◌, ◌||◌, Bool, true, false, cond, List, [], ◌∷◌, filter, slice_get, All, Option, Some, None, IsSome, IfSome, IsTrue, option_map, refl, sym, ap, ◌∙◌, subst, arith}
+use Rattle.hb_core.proofs.Latches.SameLatches.{live_held, HasHeld}
 use Rattle.std.specs.List.{list_any}
 use Rattle.std.proofs.lemmas.Option.{same_Some, none-some}
 use Rattle.std.proofs.lemmas.Bool.{cases_Bool, eq-eqb, and_parts}
@@ -36,10 +37,7 @@ use Rattle.hb_frag.specs.Rules.{BelongsAt}
 use Rattle.hb_space.specs.Boxes.{Area}
 use Rattle.hb_store.specs.States.{IsGoodPage, StoreState}
 use Rattle.hb_lemmas.proofs.Booleans.{at_itself}
-use Rattle.hb_core.proofs.Memory.BroughtPages.{own_there}
-use Rattle.hb_core.specs.Fetching.{Brings}
-use Rattle.hb_core.specs.Keeps.{LatchesFit, WalksInSpace}
-use Rattle.hb_space.specs.Actors.{IsActor}
+use Rattle.hb_core.specs.Keeps.{WalksInSpace}
 use Rattle.hb_lemmas.proofs.Options.{at_value, one_value}
 
 -- ---- in a memory that has its pages
@@ -212,12 +210,12 @@ above_records meta page name good named = All-contains (BelongsAt page.level) (l
 pub known_at : (m : Machine) (actor : ℕ) → WalksInSpace m → (place : AtParent) → merging_at (m.activity actor) ≡ Some place → NamesKnown m.store place
 known_at m actor walks place is = at_value (merging_at (m.activity actor)) (NamesKnown m.store) place is (walks.merging actor)
 
-pub place_stays : (m : Machine) (may : ℕ → Type 0) (fetched : StoreState) → Brings m may fetched → (actor : ℕ) → LatchesFit m → IsActor actor → (place : AtParent) → merging_at (m.activity actor) ≡ Some place → PlaceStays m.store fetched place
-place_stays m may fetched brings actor fit one place is =
+pub place_stays : (m : Machine) (actor : ℕ) (st : StoreState) → HasHeld m actor st → (place : AtParent) → merging_at (m.activity actor) ≡ Some place → PlaceStays m.store st place
+place_stays m actor st has place is =
     let latched = place_latched m.store (m.activity actor) place is in
     record {
-      parent = λ page live. own_there m may fetched brings actor place.parent latched.parent.0 page fit one latched.parent.1 live;
-      pair = λ pair pair_is page live. let latch = latched.pair pair pair_is in own_there m may fetched brings actor pair.keep latch.0 page fit one latch.1 live;
+      parent = λ page live. live_held m actor st has place.parent latched.parent.0 page latched.parent.1 live;
+      pair = λ pair pair_is page live. let latch = latched.pair pair pair_is in live_held m actor st has pair.keep latch.0 page latch.1 live;
     }
 
 -- What is known of the place stands in the memory before the step, and what came into memory has the same pages there.

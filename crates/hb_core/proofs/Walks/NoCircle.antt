@@ -13,14 +13,13 @@ use Rattle.hb_activity.specs.Wanting.{wanted_of}
 use Rattle.hb_core.proofs.Walks.LaterWanted.{wanted_comes_later}
 use Rattle.hb_core.proofs.Facts.StillThere.{may_or_not}
 use Rattle.hb_core.specs.Asking.{looked_live, wanted_by}
-use Rattle.hb_core.specs.Keeps.{HasNoOtherLatches, HasNobodyElse, HasSoundFile, LatchesFit, WalksInSpace}
-use Rattle.hb_core.specs.Machines.{Files, Machine, current_file}
+use Rattle.hb_core.specs.Keeps.{HasNobodyElse, HasSoundFile, LatchesFit, WalksInSpace}
+use Rattle.hb_core.specs.Machines.{Files, Machine, current_file, modes}
 use Rattle.hb_core.specs.Performing.{latches_held, mode_among}
 use Rattle.hb_boxlock.specs.Locking.{Excludes}
 use Rattle.hb_core.specs.Locking.{LocksOut}
 use Rattle.hb_core.specs.WaitingLaws.{AwaitsActor, ComesLater, NobodyWaitsInACircle, WaitInSequence, WantsItsOwn}
 use Rattle.hb_latch.specs.Modes.{goes_beside}
-use Rattle.hb_latch.specs.Tables.{mode_at}
 use Rattle.hb_space.specs.Actors.{IsActor}
 use Rattle.hb_ops.specs.Files.{FileState}
 use Rattle.hb_activity.specs.BoxLocks.{lock_of, lock_of_command}
@@ -28,11 +27,10 @@ use Rattle.hb_boxlock.specs.declared.locks.BoxLock.{BoxLock}
 use Rattle.hb_point.specs.SessionRows.{next_line}
 use Rattle.hb_set.specs.declared.scripts.Line.{Line}
 use Rattle.hb_store.specs.States.{StoreState}
-use Rattle.hb_lemmas.proofs.Options.{not_none}
 
 -- an actor waits for another one's latch, and so on, to the last
 abbrev pub AwaitsLatch : Machine → ℕ → ℕ → Type 0
-AwaitsLatch m actor other = WaitsFor m.latches (wanted_by m) actor other
+AwaitsLatch m actor other = WaitsFor (modes m) (wanted_by m) actor other
 
 abbrev pub LatchSequence : Machine → ℕ → List ℕ → ℕ → Type 0
 LatchSequence m actor [] last = AwaitsLatch m actor last
@@ -73,17 +71,17 @@ module _ (m : Machine) (files : Files) (fit : LatchesFit m) (has : HasSoundFile 
   -- the other one holds the page for update, and its next step is to have it alone
   pub record IsOwn (wanted : Wanted) (other : ℕ) (its : Wanted) : Type 0 where
     pub same : its.page ≡ wanted.page
-    pub holds : mode_at m.latches other wanted.page ≡ Some Update
+    pub holds : modes m other wanted.page ≡ Some Update
 
   -- what an actor wants for which another one waits comes later than what that one wants
   one_wait : (actor other : ℕ) (wanted its : Wanted) → wanted_by m actor ≡ Some wanted → wanted_by m other ≡ Some its → AwaitsLatch m actor other → ComesLater (current_file files) wanted.page its.page ⊎ IsOwn wanted other its
   one_wait actor other wanted its wants its_wants waits =
       let same : waits.wanted ≡ wanted = same_Some waits.wanted wanted (sym waits.wants_it ∙ wants) in
-      let held = held_there (mode_at m.latches other waits.wanted.page) waits.wanted.mode waits.kept.conflict in
-      let there : mode_at m.latches other wanted.page ≡ Some held.0 = ap (λ (w : Wanted). mode_at m.latches other w.page) (sym same) ∙ held.1 in
+      let held = held_there (modes m other waits.wanted.page) waits.wanted.mode waits.kept.conflict in
+      let there : modes m other wanted.page ≡ Some held.0 = ap (λ (w : Wanted). modes m other w.page) (sym same) ∙ held.1 in
       by held.0 there (wanted_comes_later m files other wanted.page held.0 its (wants_may other its its_wants) fit has walks its_wants there)
     where
-      by : (mode : Mode) → mode_at m.latches other wanted.page ≡ Some mode → ComesLater (current_file files) wanted.page its.page ⊎ WantsItsOwn m other wanted.page mode its → ComesLater (current_file files) wanted.page its.page ⊎ IsOwn wanted other its
+      by : (mode : Mode) → modes m other wanted.page ≡ Some mode → ComesLater (current_file files) wanted.page its.page ⊎ WantsItsOwn m other wanted.page mode its → ComesLater (current_file files) wanted.page its.page ⊎ IsOwn wanted other its
       by mode there (inl later) = inl later
       by mode there (inr own) = inr (record { same = own.same; holds = there ∙ ap Some own.update })
 
@@ -112,7 +110,7 @@ module _ (m : Machine) (files : Files) (fit : LatchesFit m) (has : HasSoundFile 
       both (inl a) (inl b) = inl (later_on (current_file files) wanted.page more.wanted.page its.page a b)
       both (inl a) (inr b) = inl (subst (ComesLater (current_file files) wanted.page) (sym b.same) a)
       both (inr a) (inl b) = inl (subst (λ (n : ℕ). ComesLater (current_file files) n its.page) a.same b)
-      both (inr a) (inr b) = absurd (beside_updates (mode_at m.latches next wanted.page) (mode_at m.latches last wanted.page) a.holds (ap (mode_at m.latches last) (sym a.same) ∙ b.holds)
+      both (inr a) (inr b) = absurd (beside_updates (modes m next wanted.page) (modes m last wanted.page) a.holds (ap (modes m last) (sym a.same) ∙ b.holds)
           (fit.compatible next last wanted.page (λ same. more.kept.another (sym same))))
   in_sequence (next ∷ second ∷ rest) actor last wanted its wants its_wants (waits, more) =
       let middle = first_wants next (second ∷ rest) last more in
@@ -136,15 +134,12 @@ module _ (m : Machine) (files : Files) (fit : LatchesFit m) (has : HasSoundFile 
 
 -- ---- in a circle everybody is waited for, so nobody is idle, and all wait for latches
 
-module _ (m : Machine) (fit : LatchesFit m) (nobody : HasNobodyElse m) (none_else : HasNoOtherLatches m) where
+module _ (m : Machine) where
   idle_holds : (st : StoreState) (page : ℕ) (held : Mode) (activity : Activity) → activity ≡ at.SessionIdle → mode_among page (latches_held st activity) ≡ Some held → ⊥
   idle_holds st page held activity idle holds = none-some held (subst (λ (a : Activity). mode_among page (latches_held st a) ≡ Some held) idle holds)
 
-  holder_stands : (actor page : ℕ) (held : Mode) → mode_at m.latches actor page ≡ Some held → m.activity actor ≡ at.SessionIdle → ⊥
-  holder_stands actor page held holds idle = elim (may_or_not actor) [
-    | inl may ↦ idle_holds m.store page held (m.activity actor) idle (sym (fit.exact actor page may) ∙ holds)
-    | inr none ↦ absurd (not_none (mode_at m.latches actor page) held holds (none_else actor page none))
-  ]
+  holder_stands : (actor page : ℕ) (held : Mode) → modes m actor page ≡ Some held → m.activity actor ≡ at.SessionIdle → ⊥
+  holder_stands actor page held holds idle = idle_holds m.store page held (m.activity actor) idle holds
 
   idle_locks : (lock : BoxLock) (activity : Activity) → activity ≡ at.SessionIdle → IsSomeAnd (lock_of activity) (Excludes lock) → ⊥
   idle_locks lock activity idle out = subst (λ (a : Activity). IsSomeAnd (lock_of a) (Excludes lock)) idle out
@@ -156,7 +151,7 @@ module _ (m : Machine) (fit : LatchesFit m) (nobody : HasNobodyElse m) (none_els
   -- who is waited for isn't idle
   waited_for : (actor other : ℕ) → AwaitsActor m actor other → m.activity other ≡ at.SessionIdle → ⊥
   waited_for actor other (inl waits) idle =
-      let held = held_there (mode_at m.latches other waits.wanted.page) waits.wanted.mode waits.kept.conflict in
+      let held = held_there (modes m other waits.wanted.page) waits.wanted.mode waits.kept.conflict in
       holder_stands other waits.wanted.page held.0 held.1 idle
   waited_for actor other (inr awaits) idle = box_held actor other (next_line actor m.answered m.lines) idle awaits.locked
 
@@ -173,5 +168,5 @@ module _ (m : Machine) (fit : LatchesFit m) (nobody : HasNobodyElse m) (none_els
   all_by_latch (next ∷ rest) actor last stands (waits, more) = (by_latch actor next stands waits, all_by_latch rest next last (waited_for actor next waits) more)
 
 pub nobody_waits_in_a_circle : NobodyWaitsInACircle
-nobody_waits_in_a_circle m files actor rest fit has nobody none_else walks waits =
-    no_circle m files fit has nobody walks actor rest (all_by_latch m fit nobody none_else rest actor actor (last_stands m fit nobody none_else rest actor actor waits) waits)
+nobody_waits_in_a_circle m files actor rest fit has nobody walks waits =
+    no_circle m files fit has nobody walks actor rest (all_by_latch m rest actor actor (last_stands m rest actor actor waits) waits)

@@ -7,14 +7,14 @@ use Rattle.hb_activity.specs.declared.wanting.Wanted.{Wanted}
 use Rattle.hb_activity.specs.declared.activities.Activity.{Activity}
 use Rattle.hb_activity.specs.declared.activities.Activity.TheVariants as at
 use Rattle.hb_core.proofs.Walks.NoCircle.{AwaitsLatch, held_there, in_sequence}
-use Rattle.hb_core.proofs.Facts.StillThere.{may_or_not}
+use Rattle.hb_core.proofs.Facts.StillThere.{holder_may}
 use Rattle.hb_core.specs.Asking.{wanted_by}
-use Rattle.hb_core.specs.Keeps.{HasNoOtherLatches, HasNobodyElse, HasSoundFile, LatchesFit, WalksInSpace}
-use Rattle.hb_core.specs.Machines.{Files, Machine, current_file}
+use Rattle.hb_core.specs.Keeps.{HasNobodyElse, HasSoundFile, LatchesFit, WalksInSpace}
+use Rattle.hb_core.specs.Machines.{Files, Machine, current_file, modes}
 use Rattle.hb_core.specs.Performing.{latches_held, mode_among}
 use Rattle.hb_core.specs.SteppingLaws.{IsAtRest}
 use Rattle.hb_core.specs.WaitingLaws.{ComesLater, HasWorkLeft, IsKeptWaiting, SomebodyGoesOn}
-use Rattle.hb_latch.specs.Tables.{IsLeastInTheWay, mode_at}
+use Rattle.hb_latch.specs.Tables.{IsLeastInTheWay}
 use Rattle.hb_ops.specs.Files.{live_page}
 use Rattle.hb_space.specs.Boxes.{volume}
 use Rattle.hb_store.specs.States.{StoreState}
@@ -27,24 +27,21 @@ rests_free st at.ConsolidatorIdle page mode rests holds = cc
 rests_free st at.Flusher page mode rests holds = cc
 rests_free st activity page mode rests holds = absurd rests
 
-module _ (m : Machine) (files : Files) (fit : LatchesFit m) (has : HasSoundFile m files) (nobody : HasNobodyElse m) (none_else : HasNoOtherLatches m) (walks : WalksInSpace m)
+module _ (m : Machine) (files : Files) (fit : LatchesFit m) (has : HasSoundFile m files) (nobody : HasNobodyElse m) (walks : WalksInSpace m)
     (kept : (other : ℕ) → HasWorkLeft m other → IsKeptWaiting m other) where
   -- who is in the way is at work
-  holder_works : (actor page : ℕ) (mode : Mode) → mode_at m.latches actor page ≡ Some mode → HasWorkLeft m actor
-  holder_works actor page mode holds = elim (may_or_not actor) [
-    | inl may ↦ (may, λ rests. rests_free m.store (m.activity actor) page mode rests (sym (fit.exact actor page may) ∙ holds))
-    | inr none ↦ let nothing : None ≡ Some mode = sym (none_else actor page none) ∙ holds in cc
-  ]
+  holder_works : (actor page : ℕ) (mode : Mode) → modes m actor page ≡ Some mode → HasWorkLeft m actor
+  holder_works actor page mode holds = (holder_may m nobody actor page mode holds, λ rests. rests_free m.store (m.activity actor) page mode rests holds)
 
   record IsKeptBy (actor : ℕ) : Type 0 where
     pub other : ℕ
     pub waits : AwaitsLatch m actor other
     pub works : HasWorkLeft m other
 
-  kept_by : (actor by : ℕ) (wants : Option Wanted) → wanted_by m actor ≡ wants → IsSomeAnd wants (λ wanted. IsLeastInTheWay m.latches actor wanted.page wanted.mode by) → IsKeptBy actor
+  kept_by : (actor by : ℕ) (wants : Option Wanted) → wanted_by m actor ≡ wants → IsSomeAnd wants (λ wanted. IsLeastInTheWay (modes m) actor wanted.page wanted.mode by) → IsKeptBy actor
   kept_by actor by None is never = absurd never
   kept_by actor by (Some wanted) is least =
-      let held = held_there (mode_at m.latches by wanted.page) wanted.mode least.keeps.conflict in
+      let held = held_there (modes m by wanted.page) wanted.mode least.keeps.conflict in
       record { other = by; waits = record { wanted = wanted; wants_it = is; kept = least.keeps }; works = holder_works by wanted.page held.0 held.1 }
 
   keeps_it : (actor : ℕ) → HasWorkLeft m actor → IsKeptBy actor
@@ -106,4 +103,4 @@ module _ (m : Machine) (files : Files) (fit : LatchesFit m) (has : HasSoundFile 
       below_all (suc next.later.page.level) actor first.waits.wanted next.later.page first.waits.wants_it works next.later.live (omega arith)
 
 pub somebody_goes_on : SomebodyGoesOn
-somebody_goes_on m files actor fit has nobody none_else walks works kept = nobody_stuck m files fit has nobody none_else walks kept actor works
+somebody_goes_on m files actor fit has nobody walks works kept = nobody_stuck m files fit has nobody walks kept actor works

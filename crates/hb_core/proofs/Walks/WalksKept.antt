@@ -1,15 +1,14 @@
 -- After a step the page that a walk holds has the walk's point in its box, and the parent that a poster holds a child leaf there.
 use Rattle.std.proofs.Common.{◌≡◌, ◌≢◌, ◌⊎◌, inl, inr, ℕ, ◌==◌, List, [], Option, Some, None, IfSome, IsSome, refl, sym, ap, ◌∙◌, subst}
-use Rattle.std.proofs.lemmas.Bool.{cases_Bool, eqb-true, eqb-false}
+use Rattle.hb_core.proofs.Latches.SameLatches.{walk_stays, HasHeld, live_held}
+use Rattle.hb_core.proofs.Latches.HeldKept.{each_held}
 use Rattle.hb_frag.specs.declared.pages.LivePage.{LivePage}
-use Rattle.hb_frag.specs.declared.pages.Page.TheVariants.{Live}
 use Rattle.hb_set.specs.declared.scripts.Line.{Line}
 use Rattle.hb_latch.specs.declared.modes.Mode.{Mode}
 use Rattle.hb_latch.specs.declared.modes.Mode.TheVariants.{Update, Exclusive}
 use Rattle.hb_activity.specs.declared.jobs.Job.{Job}
 use Rattle.hb_activity.specs.declared.activities.Activity.{Activity}
 use Rattle.hb_activity.specs.declared.activities.Activity.TheVariants as at
-use Rattle.hb_core.specs.declared.outcomes.Outcome.{Outcome}
 use Rattle.hb_core.specs.declared.outcomes.Outcome.TheVariants as outcomes
 use Rattle.hb_activity.specs.Deeds.{Deed}
 use Rattle.hb_activity.specs.Holding.{latch_on}
@@ -21,29 +20,25 @@ use Rattle.hb_lemmas.proofs.Options.{one_value, not_none}
 use Rattle.hb_frag.specs.declared.leaves.Leaf.{Leaf}
 use Rattle.hb_frag.specs.declared.leaves.Leaf.TheVariants.{Records, Child, Sibling}
 use Rattle.hb_activity.specs.Walks.{walk_held, walk_point}
-use Rattle.hb_core.proofs.Memory.BroughtPages.{own_there}
-use Rattle.hb_core.proofs.Latches.LatchesStay.{walk_latched}
-use Rattle.hb_core.proofs.Walks.MergesKept.{HasMergePlace, PlaceStays, merged_place, named_again, none_named, place_latched, known_at, place_stays}
-use Rattle.hb_core.proofs.Table.NextPlaces.{HasPlace, HoldsNothing, KeepsParent, MergesOn, TakesParent, WalksTo, nothing_given_up, now, place_after}
-use Rattle.hb_core.proofs.Facts.StepKinds.{each_kind, ready_kind}
-use Rattle.hb_core.proofs.Facts.StillThere.{fetched_good, may_or_not, other_holds, other_walks}
-use Rattle.hb_core.proofs.Facts.Ways.{KeepsAllButDisk, forces_so, meets_so, stays_so, more_so, nothing_done, own_next, others_next}
+use Rattle.hb_core.proofs.Memory.BroughtPages.{own_there, held_come}
+use Rattle.hb_core.proofs.Walks.MergesKept.{HasMergePlace, PlaceStays, merged_place, named_again, none_named, known_at, place_stays}
+use Rattle.hb_core.proofs.Table.NextPlaces.{HasPlace, HoldsNothing, KeepsParent, MergesOn, TakesParent, WalksTo, now, place_after}
+use Rattle.hb_core.proofs.Facts.StillThere.{fetched_good}
+use Rattle.hb_core.proofs.Facts.Ways.{nothing_done}
 use Rattle.hb_core.specs.Fetching.{Brings}
 use Rattle.hb_core.specs.KeepingLaws.{WalksStayInSpace}
-use Rattle.hb_core.specs.Keeps.{HasNobodyElse, HoldsPagesOfFile, LatchesFit, WalksInSpace}
+use Rattle.hb_core.specs.Keeps.{HoldsPagesOfFile, LatchesFit, WalksInSpace}
 use Rattle.hb_core.specs.KeptMerges.{AtParent, NamesKnown, merging_at}
 use Rattle.hb_core.specs.Machines.{Machine, live_here}
-use Rattle.hb_core.specs.Performing.{Performs, latches_held, mode_among}
-use Rattle.hb_core.specs.Steps.{StepsTo, Works}
+use Rattle.hb_core.specs.Performing.{MayDo, latches_held, mode_among}
 use Rattle.hb_space.specs.Actors.{IsActor}
 use Rattle.hb_ops.proofs.Facts.Tips.{first_held}
 use Rattle.hb_ops.specs.Files.{if_live}
 use Rattle.hb_space.specs.Boxes.{Holds}
-use Rattle.hb_store.specs.States.{StoreState, in_memory}
-use Rattle.hb_ops.proofs.Facts.PageNumberLaws.{live_so}
+use Rattle.hb_store.specs.States.{StoreState}
 use Rattle.std.proofs.lemmas.Option.{none-some}
 use Rattle.hb_lemmas.proofs.Lists.{not_empty}
-use Rattle.hb_lemmas.proofs.Booleans.{at_itself}
+use Rattle.hb_lemmas.proofs.Booleans.{at_itself, at_other}
 
 abbrev pub IsAtParent : Activity → Job → ℕ → Type 0
 IsAtParent activity job parent = (activity ≡ at.PosterChild job parent) ⊎ (activity ≡ at.PosterPromote job parent) ⊎ (activity ≡ at.PosterAgain job parent)
@@ -193,11 +188,11 @@ leads_on page p l there names = subst (λ (o : Option Placed). IsSome (option_an
     by (Child name) some = refl
     by (Sibling name) some = refl
 
-module _ (m : Machine) (actor : ℕ) (may : ℕ → Type 0) (fetched : StoreState) (latches : IsActor actor) (fit : LatchesFit m) (inside : HoldsPagesOfFile m) (walks : WalksInSpace m) (brings : Brings m may fetched) (deed : Deed) (outcome : Outcome) (new : Machine) (performs : Performs m fetched actor deed outcome new) where
+module _ (m : Machine) (actor : ℕ) (may : ℕ → Type 0) (fetched : StoreState) (latches : IsActor actor) (fit : LatchesFit m) (inside : HoldsPagesOfFile m) (walks : WalksInSpace m) (brings : Brings m may fetched) (deed : Deed) (after : StoreState) (done : MayDo deed.op (length m.order) fetched after) where
   -- a page that the actor holds stays
-  walks_to : WalksTo fetched deed → StandsInSpace new.store deed.next
+  walks_to : WalksTo fetched deed → StandsInSpace after deed.next
   walks_to to =
-      let store = nothing_done deed.op _ fetched new.store to.nothing performs.store in
+      let store = nothing_done deed.op _ fetched after to.nothing done in
       let good = fetched_good m may fetched inside brings to.id to.page to.live in
       let has : Holds to.page.area to.p = first_held to.p to.page.frag to.page.area to.placed good.1.well_cut to.leaf in
       record {
@@ -212,14 +207,14 @@ module _ (m : Machine) (actor : ℕ) (may : ℕ → Type 0) (fetched : StoreStat
             let is = one_value (live_here fetched held) to.page page (ap (live_here fetched) (sym id) ∙ to.live) live_then in
             subst (λ (o : Option (List ℕ)). IfSome o (λ p. IsSome (onward_at page p))) (sym to.point) (subst (λ (q : LivePage). IsSome (onward_at q to.p)) is (leads_on to.page to.p to.placed to.leaf to.names));
         parents = λ job parent is. absurd (walks_have_none deed.next to.id job parent to.held is);
-        merging = none_named new.store (merging_at deed.next) to.merging;
+        merging = none_named after (merging_at deed.next) to.merging;
       }
 
   -- the pages of a consolidator's place stay
-  takes_parent : TakesParent (now m actor fetched) deed → StandsInSpace new.store deed.next
+  takes_parent : TakesParent (now m actor fetched) deed → StandsInSpace after deed.next
   takes_parent takes =
-      let store = nothing_done deed.op _ fetched new.store (ap (λ (d : Deed). d.op) takes.row.deed_is) performs.store in
-      same_parent deed.next takes.job takes.id new.store (inl (ap (λ (d : Deed). d.next) takes.row.deed_is))
+      let store = nothing_done deed.op _ fetched after (ap (λ (d : Deed). d.op) takes.row.deed_is) done in
+      same_parent deed.next takes.job takes.id after (inl (ap (λ (d : Deed). d.next) takes.row.deed_is))
       (takes.page, ap (λ (st : StoreState). live_here st takes.id) store ∙ takes.live, takes.row.level, (takes.row.child, takes.row.area, takes.row.leaf))
 
   at_parent_before : (job : Job) (parent : ℕ) → (m.activity actor ≡ at.PosterChild job parent) ⊎ (m.activity actor ≡ at.PosterPromote job parent) → IsAtParent (m.activity actor) job parent
@@ -230,111 +225,49 @@ module _ (m : Machine) (actor : ℕ) (may : ℕ → Type 0) (fetched : StoreStat
   at_parent_after job parent (inl is) = inr (inl is)
   at_parent_after job parent (inr is) = inr (inr is)
 
-  keeps_parent : KeepsParent m actor deed → StandsInSpace new.store deed.next
+  keeps_parent : KeepsParent m actor deed → StandsInSpace after deed.next
   keeps_parent keeps =
-      let store = nothing_done deed.op _ fetched new.store keeps.nothing performs.store in
+      let store = nothing_done deed.op _ fetched after keeps.nothing done in
       let latch = parent_latched m.store (m.activity actor) keeps.job keeps.parent (at_parent_before keeps.job keeps.parent keeps.before) in
-      same_parent deed.next keeps.job keeps.parent new.store (at_parent_after keeps.job keeps.parent keeps.after)
-      (moved_parent m.store new.store keeps.job keeps.parent (λ page live. ap (λ (st : StoreState). live_here st keeps.parent) store ∙ own_there m may fetched brings actor keeps.parent latch.0 page fit latches latch.1 live)
+      same_parent deed.next keeps.job keeps.parent after (at_parent_after keeps.job keeps.parent keeps.after)
+      (moved_parent m.store after keeps.job keeps.parent (λ page live. ap (λ (st : StoreState). live_here st keeps.parent) store ∙ own_there m may fetched brings actor keeps.parent latch.0 page fit latches latch.1 live)
       (walks.parents actor keeps.job keeps.parent (at_parent_before keeps.job keeps.parent keeps.before)))
 
   -- a consolidator knows what the parent names
-  merged_in_space : MergesOn m actor (now m actor fetched) deed → StandsInSpace new.store deed.next
+  merged_in_space : MergesOn m actor (now m actor fetched) deed → StandsInSpace after deed.next
   merged_in_space merges = by (merged_place m actor fetched (fetched_good m may fetched inside brings)
-      (known_at m actor walks) (place_stays m may fetched brings actor fit latches) deed merges)
+      (known_at m actor walks) (place_stays m actor fetched (held_come m may fetched brings actor)) deed merges)
     where
-      store : new.store ≡ fetched
-      store = nothing_done deed.op _ fetched new.store (ap (λ (d : Deed). d.op) merges.stays.is) performs.store
+      store : after ≡ fetched
+      store = nothing_done deed.op _ fetched after (ap (λ (d : Deed). d.op) merges.stays.is) done
 
       still : walk_held deed.next ≡ None
       still = ap (λ (d : Deed). walk_held d.next) merges.stays.is ∙ merges.stays.after.walk
 
-      by : HoldsNothing deed.next ⊎ HasMergePlace fetched deed.next → StandsInSpace new.store deed.next
-      by (inl free) = free_stands new.store deed.next free
-      by (inr at_merge) = merges_in_space new.store deed.next at_merge.place still at_merge.is (subst (λ (st : StoreState). NamesKnown st at_merge.place) (sym store) at_merge.named)
+      by : HoldsNothing deed.next ⊎ HasMergePlace fetched deed.next → StandsInSpace after deed.next
+      by (inl free) = free_stands after deed.next free
+      by (inr at_merge) = merges_in_space after deed.next at_merge.place still at_merge.is (subst (λ (st : StoreState). NamesKnown st at_merge.place) (sym store) at_merge.named)
 
-  placed_in_space : HasPlace m actor (now m actor fetched) deed → StandsInSpace new.store deed.next
-  placed_in_space (inl free) = free_stands new.store deed.next free
+  pub placed_in_space : HasPlace m actor (now m actor fetched) deed → StandsInSpace after deed.next
+  placed_in_space (inl free) = free_stands after deed.next free
   placed_in_space (inr (inl to)) = walks_to to
-  placed_in_space (inr (inr (inl full))) = split_stands new.store deed.next full.line full.id (ap (λ (d : Deed). d.next) full.row.deed_is)
+  placed_in_space (inr (inr (inl full))) = split_stands after deed.next full.line full.id (ap (λ (d : Deed). d.next) full.row.deed_is)
   placed_in_space (inr (inr (inr (inl takes)))) = takes_parent takes
   placed_in_space (inr (inr (inr (inr (inl keeps))))) = keeps_parent keeps
   placed_in_space (inr (inr (inr (inr (inr (inr merges)))))) = merged_in_space merges
-  placed_in_space (inr (inr (inr (inr (inr (inl parts)))))) = put_stands new.store deed.next parts.line parts.held parts.row.leaves.fresh (ap (λ (d : Deed). d.next) parts.row.deed_is)
+  placed_in_space (inr (inr (inr (inr (inr (inl parts)))))) = put_stands after deed.next parts.line parts.held parts.row.leaves.fresh (ap (λ (d : Deed). d.next) parts.row.deed_is)
 
 -- ---- each step
 
-module _ (m : Machine) (actor : ℕ) (outcome : Outcome) (new : Machine) (latches : IsActor actor) (fit : LatchesFit m) (inside : HoldsPagesOfFile m) (nobody : HasNobodyElse m) (walks : WalksInSpace m) (step : StepsTo m actor outcome new) where
-  other_in_space : (other : ℕ) → other ≢ actor → IsActor other → StandsInSpace new.store (m.activity other)
-  other_in_space other another may = stands_again (m.activity other) m.store new.store (each_stands m walks other)
-      (λ held page on live. let both = other_walks m actor outcome new latches fit inside step other another may held on in both.1.before ∙ sym both.1.after ∙ live)
-      (λ job parent page is live. let latch = parent_latched m.store (m.activity other) job parent is in other_holds m actor outcome new latches fit inside step other another may (m.activity other) parent latch.0 page refl latch.1 live)
-      (λ place is.
-      let latched = place_latched m.store (m.activity other) place is in
-      record {
-        parent = λ page live. other_holds m actor outcome new latches fit inside step other another may (m.activity other) place.parent latched.parent.0 page refl latched.parent.1 live;
-        pair = λ pair held page live. let latch = latched.pair pair held in other_holds m actor outcome new latches fit inside step other another may (m.activity other) pair.keep latch.0 page refl latch.1 live;
-      })
-
-  idle_in_space : (st : StoreState) (activity : Activity) → activity ≡ at.SessionIdle → StandsInSpace st activity
-  idle_in_space st activity is = subst (StandsInSpace st) (sym is) (free_stands st at.SessionIdle (record { walk = refl; latches = λ st. refl; merging = refl }))
-
-  others_in_space : (other : ℕ) → other ≢ actor → new.activity other ≡ m.activity other → StandsInSpace new.store (new.activity other)
-  others_in_space other another same = subst (StandsInSpace new.store) (sym same) (elim (may_or_not other) [
-    | inl may ↦ other_in_space other another may
-    | inr none ↦ idle_in_space new.store (m.activity other) (nobody other none)
-  ])
-
-  with_own : StandsInSpace new.store (new.activity actor) → ((other : ℕ) → other ≢ actor → new.activity other ≡ m.activity other) → WalksInSpace new
-  with_own own others = all_stand new (λ a. elim (cases_Bool (a == actor)) [
-    | inl here ↦ subst (λ (n : ℕ). StandsInSpace new.store (new.activity n)) (sym (eqb-true a actor here)) own
-    | inr off ↦ let another = eqb-false a actor off in others_in_space a another (others a another)
-  ])
-
-  -- all but the disk stays
-  same_but_disk : KeepsAllButDisk m new → WalksInSpace new
-  same_but_disk keeps = with_own
-      (subst (StandsInSpace new.store) (sym (ap (λ (all : ℕ → Activity). all actor) keeps.activity)) (stands_again (m.activity actor) m.store new.store (each_stands m walks actor)
-      (λ held page on live.
-      let old = fit.walking actor held latches on in
-      let latch = walk_latched (m.activity actor) m.store held old.0 on (ap if_live old.1) in
-      ap if_live old.1 ∙ sym (still held latch.0 old.0 latch.1 (ap if_live old.1)) ∙ live)
-      (λ job parent page is live. let latch = parent_latched m.store (m.activity actor) job parent is in still parent latch.0 page latch.1 live)
-      (λ place is.
-      let latched = place_latched m.store (m.activity actor) place is in
-      record {
-        parent = λ page live. still place.parent latched.parent.0 page latched.parent.1 live;
-        pair = λ pair held page live. let latch = latched.pair pair held in still pair.keep latch.0 page latch.1 live;
-      })))
-      (λ other another. ap (λ (all : ℕ → Activity). all other) keeps.activity)
-    where
-      still : (id : ℕ) (mode : Mode) (page : LivePage) → mode_among id (latches_held m.store (m.activity actor)) ≡ Some mode → live_here m.store id ≡ Some page → live_here new.store id ≡ Some page
-      still id mode page among live = ap if_live (keeps.memory id (Live page) (inl (actor, mode, fit.exact actor id latches ∙ among)) (live_so (in_memory m.store id) page live))
-
-  -- a deed is done
-  did : (fetched : StoreState) (deed : Deed) → Performs m fetched actor deed outcome new → StandsInSpace new.store deed.next → WalksInSpace new
-  did fetched deed performs own = with_own (subst (StandsInSpace new.store) (sym (own_next actor deed.next m.activity new.activity performs.activity)) own) (others_next actor deed.next m.activity new.activity performs.activity)
-
-  freed : (fetched : StoreState) (deed : Deed) → Performs m fetched actor deed outcome new → HoldsNothing deed.next → WalksInSpace new
-  freed fetched deed performs free = did fetched deed performs (free_stands new.store deed.next free)
-
-  worked : Works m actor outcome new → WalksInSpace new
-  worked (inl (by, way, so)) = same_but_disk (stays_so m actor outcome new (outcomes.Blocked by) so)
-  worked (inr (inl (free, unready, inl (waits, force)))) = same_but_disk (forces_so m actor outcome new outcomes.Helped force)
-  worked (inr (inl (free, unready, inr (none, rest)))) =
-      ready_kind m outcome new (WalksInSpace new) none (λ more. same_but_disk (more_so m actor outcome new more)) rest
-  worked (inr (inr (free, ready, inl acts))) =
-      did acts.fetched acts.deed acts.performs
-      (placed_in_space m actor _ acts.fetched latches fit inside walks acts.brings acts.deed outcome new acts.performs (place_after m actor acts.fetched _ acts.deed refl acts.row))
-  worked (inr (inr (free, ready, inr (inl gives)))) = freed gives.fetched _ gives.performs (nothing_given_up gives.why (m.activity actor))
-  worked (inr (inr (free, ready, inr (inr meets)))) = same_but_disk (meets_so m actor outcome new meets)
+-- where the pages that an actor holds stay
+pub stands_held : (m : Machine) → LatchesFit m → (actor : ℕ) (st : StoreState) → HasHeld m actor st → StandsInSpace m.store (m.activity actor) → StandsInSpace st (m.activity actor)
+stands_held m fit actor st has stands = stands_again (m.activity actor) m.store st stands
+    (λ held page on live. let both = walk_stays m fit actor held st has on in ap if_live both.1 ∙ sym (ap if_live both.2) ∙ live)
+    (λ job parent page is live. let latch = parent_latched m.store (m.activity actor) job parent is in live_held m actor st has parent latch.0 page latch.1 live)
+    (place_stays m actor st has)
 
 pub walks_stay_in_space : WalksStayInSpace
-walks_stay_in_space m actor outcome new latches fit inside nobody walks step =
-    each_kind m actor outcome new (WalksInSpace new)
-    (λ said quiet so. same_but_disk m actor outcome new latches fit inside nobody walks step (stays_so m actor outcome new said so))
-    (λ said quiet force. same_but_disk m actor outcome new latches fit inside nobody walks step (forces_so m actor outcome new said force))
-    (λ more. same_but_disk m actor outcome new latches fit inside nobody walks step (more_so m actor outcome new more))
-    (λ deed outright performs. freed m actor outcome new latches fit inside nobody walks step m.store deed performs (record { walk = outright.walk; latches = outright.latches; merging = outright.merging }))
-    (worked m actor outcome new latches fit inside nobody walks step)
-    step
+walks_stay_in_space m actor outcome new latches fit inside nobody walks step = all_stand new (each_held m actor outcome new latches fit inside step (λ other activity. StandsInSpace new.store activity)
+    (λ other has. stands_held m fit other new.store has (each_stands m walks other))
+    (free_stands new.store)
+    (λ way acts. placed_in_space m actor _ acts.fetched latches fit inside walks acts.brings acts.deed new.store acts.performs.store (place_after m actor acts.fetched _ acts.deed refl acts.row)))

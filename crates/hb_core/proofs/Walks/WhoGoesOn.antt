@@ -7,7 +7,7 @@ use Rattle.std.proofs.lemmas.Bool.{cases_Bool, eq-eqb, eqb-false, eqb-true, fals
 use Rattle.std.proofs.lemmas.List.Elements.{All-contains}
 use Rattle.hb_latch.specs.declared.modes.Mode.{Mode}
 use Rattle.hb_latch.specs.Modes.{goes_beside}
-use Rattle.hb_latch.specs.Tables.{IsGrantable, IsLeastInTheWay, KeepsFrom, LatchTable, mode_at}
+use Rattle.hb_latch.specs.Tables.{IsGrantable, IsLeastInTheWay, KeepsFrom, HeldModes}
 use Rattle.hb_space.specs.Actors.{IsActor}
 use Rattle.hb_latch.proofs.Facts.InTheWay.{nobody_keeps, none_keeps}
 use Rattle.hb_set.specs.declared.commands.Reply.{Reply}
@@ -29,15 +29,16 @@ use Rattle.hb_set.specs.Machine.{RecordSet}
 use Rattle.hb_core.specs.declared.outcomes.Outcome.{Outcome}
 use Rattle.hb_core.specs.declared.outcomes.Outcome.TheVariants as outcomes
 use Rattle.hb_core.proofs.Walks.LockHolders.{holder_works}
+use Rattle.hb_core.proofs.Walks.NoCircle.{held_there}
 use Rattle.hb_core.proofs.Walks.SomebodyFree.{somebody_goes_on}
-use Rattle.hb_core.proofs.Facts.StillThere.{may_or_not}
+use Rattle.hb_core.proofs.Facts.StillThere.{holder_may, may_or_not}
 use Rattle.hb_core.specs.Asking.{HasWayFree, wanted_by}
 use Rattle.hb_core.specs.Forcing.{FlushesOnce, ForcesAll, StaysSo}
-use Rattle.hb_core.specs.Keeps.{HasNoOtherLatches}
+use Rattle.hb_core.specs.Keeps.{HasNobodyElse}
 use Rattle.hb_core.specs.KeptFits.{LineFits, class_for}
 use Rattle.hb_core.specs.Locking.{HasBoxFree}
 use Rattle.hb_core.specs.KeptMachine.{CoreKeeps}
-use Rattle.hb_core.specs.Machines.{Files, Machine}
+use Rattle.hb_core.specs.Machines.{Files, Machine, modes}
 use Rattle.hb_core.specs.Performing.{Performs, outcome_of}
 use Rattle.hb_core.specs.ProgressLaws.{GoesForward, GoesOnNow, HasSomethingLeft, SomebodyGoesOnNow}
 use Rattle.hb_core.specs.SteppingLaws.{IsAtRest}
@@ -60,7 +61,7 @@ below_or_at a n lt = elim (cases_Bool (a == n)) [
   | inr off ↦ let apart = eqb-false a n off in inl (omega (arith, lt, apart))
 ]
 
-module _ (table : LatchTable) (actor page : ℕ) (mode : Mode) where
+module _ (modes : HeldModes) (actor page : ℕ) (mode : Mode) where
   conflict_or_not : (o : Option Mode) → IsSomeAnd o (λ held. ¬ (IsTrue (goes_beside mode held))) ⊎ (¬ (IsSomeAnd o (λ held. ¬ (IsTrue (goes_beside mode held)))))
   conflict_or_not None = inr (λ never. never)
   conflict_or_not (Some held) = elim (cases_Bool (goes_beside mode held)) [
@@ -68,17 +69,17 @@ module _ (table : LatchTable) (actor page : ℕ) (mode : Mode) where
     | inr apart ↦ inl (λ beside. false≢true (sym apart ∙ beside))
   ]
 
-  keeps_or_not : (other : ℕ) → KeepsFrom table actor page mode other ⊎ (¬ (KeepsFrom table actor page mode other))
+  keeps_or_not : (other : ℕ) → KeepsFrom modes actor page mode other ⊎ (¬ (KeepsFrom modes actor page mode other))
   keeps_or_not other = elim (cases_Bool (other == actor)) [
     | inl same ↦ inr (λ keeps. keeps.another (eqb-true other actor same))
-    | inr off ↦ elim (conflict_or_not (mode_at table other page)) [
+    | inr off ↦ elim (conflict_or_not (modes other page)) [
       | inl conflict ↦ inl (record { another = eqb-false other actor off; conflict = conflict })
       | inr none ↦ inr (λ keeps. none keeps.conflict)
     ]
   ]
 
   -- the least actor in the way, below a number
-  least_below : (n : ℕ) → ((earlier : ℕ) → earlier < n → ¬ (KeepsFrom table actor page mode earlier)) ⊎ ((by : ℕ) × IsLeastInTheWay table actor page mode by)
+  least_below : (n : ℕ) → ((earlier : ℕ) → earlier < n → ¬ (KeepsFrom modes actor page mode earlier)) ⊎ ((by : ℕ) × IsLeastInTheWay modes actor page mode by)
   least_below zero = inl (λ earlier lt. absurd (omega (arith, lt)))
   least_below (suc n) = elim (least_below n) [
     | inr found ↦ inr found
@@ -86,26 +87,26 @@ module _ (table : LatchTable) (actor page : ℕ) (mode : Mode) where
       | inl keeps ↦ inr (n, record { keeps = keeps; least = none })
       | inr not_it ↦ inl (λ earlier lt. elim (below_or_at earlier n lt) [
         | inl below ↦ none earlier below
-        | inr is ↦ subst (λ (k : ℕ). ¬ (KeepsFrom table actor page mode k)) (sym is) not_it
+        | inr is ↦ subst (λ (k : ℕ). ¬ (KeepsFrom modes actor page mode k)) (sym is) not_it
       ])
     ]
   ]
 
-module _ (m : Machine) (none_else : HasNoOtherLatches m) where
+module _ (m : Machine) (none_else : HasNobodyElse m) where
   -- only the 19 actors hold latches
-  nobody : (actor page : ℕ) (mode : Mode) → ((earlier : ℕ) → earlier < 20 → ¬ (KeepsFrom m.latches actor page mode earlier)) → (other : ℕ) → ¬ (KeepsFrom m.latches actor page mode other)
-  nobody actor page mode none other keeps = elim (may_or_not other) [
-    | inl may ↦ let last = may.to_19 in none other (omega (arith, last)) keeps
-    | inr outside ↦ subst (λ (o : Option Mode). IsSomeAnd o (λ held. ¬ (IsTrue (goes_beside mode held)))) (none_else other page outside) keeps.conflict
-  ]
+  nobody : (actor page : ℕ) (mode : Mode) → ((earlier : ℕ) → earlier < 20 → ¬ (KeepsFrom (modes m) actor page mode earlier)) → (other : ℕ) → ¬ (KeepsFrom (modes m) actor page mode other)
+  nobody actor page mode none other keeps =
+      let held = held_there (modes m other page) mode keeps.conflict in
+      let last = (holder_may m none_else other page held.0 held.1).to_19 in
+      none other (omega (arith, last)) keeps
 
   free_or_kept : (actor : ℕ) → HasWayFree m actor ⊎ IsKeptWaiting m actor
   free_or_kept actor = by (wanted_by m actor)
     where
-      by : (o : Option Wanted) → IfSome o (λ wanted. IsGrantable m.latches actor wanted.page wanted.mode) ⊎ ((by : ℕ) × IsSomeAnd o (λ wanted. IsLeastInTheWay m.latches actor wanted.page wanted.mode by))
+      by : (o : Option Wanted) → IfSome o (λ wanted. IsGrantable (modes m) actor wanted.page wanted.mode) ⊎ ((by : ℕ) × IsSomeAnd o (λ wanted. IsLeastInTheWay (modes m) actor wanted.page wanted.mode by))
       by None = inl tt
-      by (Some wanted) = elim (least_below m.latches actor wanted.page wanted.mode 20) [
-        | inl none ↦ inl (nobody_keeps m.latches actor wanted.page wanted.mode (nobody actor wanted.page wanted.mode none))
+      by (Some wanted) = elim (least_below (modes m) actor wanted.page wanted.mode 20) [
+        | inl none ↦ inl (nobody_keeps (modes m) actor wanted.page wanted.mode (nobody actor wanted.page wanted.mode none))
         | inr found ↦ inr found
       ]
 
@@ -173,9 +174,9 @@ module _ (m : Machine) (actor : ℕ) (outcome : Outcome) (new : Machine) where
   flushed due nothing forward done (inr (none, inr (inr (nothing_left, so)))) = done so
 
   -- nobody is in a way that is free
-  not_kept : (o : Option Wanted) (by : ℕ) → IfSome o (λ wanted. IsGrantable m.latches actor wanted.page wanted.mode) → IsSomeAnd o (λ wanted. IsLeastInTheWay m.latches actor wanted.page wanted.mode by) → ⊥
+  not_kept : (o : Option Wanted) (by : ℕ) → IfSome o (λ wanted. IsGrantable (modes m) actor wanted.page wanted.mode) → IsSomeAnd o (λ wanted. IsLeastInTheWay (modes m) actor wanted.page wanted.mode by) → ⊥
   not_kept None by free never = never
-  not_kept (Some wanted) by free least = none_keeps m.latches actor wanted.page wanted.mode free by least.keeps
+  not_kept (Some wanted) by free least = none_keeps (modes m) actor wanted.page wanted.mode free by least.keeps
 
   worked : HasWayFree m actor → Works m actor outcome new → GoesForward outcome
   worked free (inl (by, way, so)) = absurd (not_kept (wanted_by m actor) by free way)
@@ -262,7 +263,7 @@ module _ (n : RecordSet) (m : Machine) (files : Files) (keeps : CoreKeeps n m fi
 
   -- somebody at work goes on, or nobody is at work
   works_or_none : Somebody ⊎ ((actor : ℕ) → ¬ (HasWorkLeft m actor))
-  works_or_none = elim (first_free m keeps.kept.no_other_latches 20) [
+  works_or_none = elim (first_free m keeps.kept.nobody_else 20) [
     | inl (free, is) ↦ inl (
       free,
       record {
@@ -271,7 +272,7 @@ module _ (n : RecordSet) (m : Machine) (files : Files) (keeps : CoreKeeps n m fi
         forward = λ outcome new step. stepped m free outcome new (m.activity free) is.works.1 is.free (as_it_runs free outcome new step);
       },
     )
-    | inr kept ↦ inr (λ actor works. somebody_goes_on m files actor keeps.kept.latches_fit keeps.sound_file keeps.kept.nobody_else keeps.kept.no_other_latches keeps.kept.walk_in_space works
+    | inr kept ↦ inr (λ actor works. somebody_goes_on m files actor keeps.kept.latches_fit keeps.sound_file keeps.kept.nobody_else keeps.kept.walk_in_space works
         (λ other busy. let last = busy.0.to_19 in kept other (omega (arith, last)) busy))
   ]
 

@@ -1,6 +1,8 @@
 -- After a step a walking worker's job is below the file's height, and its page of the job's level or above it.
 use Rattle.std.proofs.Common.{◌≡◌, ◌≢◌, ◌⊎◌, inl, inr, ℕ, ◌<◌, ◌≤◌, ◌==◌, Option, Some, None, IfSome, refl, sym, ap, ◌∙◌, subst, arith}
-use Rattle.std.proofs.lemmas.Bool.{cases_Bool, eqb-true, eqb-false}
+use Rattle.hb_core.specs.Keeps.{LatchesFit}
+use Rattle.hb_core.proofs.Latches.SameLatches.{walk_stays, HasHeld}
+use Rattle.hb_core.proofs.Facts.StillThere.{other_held}
 use Rattle.std.proofs.lemmas.Option.{none-some, same_Some}
 use Rattle.hb_frag.specs.declared.leaves.Leaf.{Leaf}
 use Rattle.hb_frag.specs.declared.leaves.Leaf.TheVariants.{Records, Child, Sibling}
@@ -15,9 +17,7 @@ use Rattle.hb_activity.specs.Passing.{LeadsBelow}
 use Rattle.hb_activity.specs.Walks.{walk_held}
 use Rattle.hb_consol.specs.ConsolidatorRows.{IsMergingOf}
 use Rattle.hb_core.proofs.Table.DeedKinds.{each_again, each_deed}
-use Rattle.hb_core.proofs.Latches.LatchesStay.{walk_latched}
 use Rattle.hb_core.proofs.Memory.MetaKept.{deed_keeps_meta}
-use Rattle.hb_core.proofs.Facts.StillThere.{may_or_not, other_walks}
 use Rattle.hb_core.proofs.Walks.WalkingWorkers.{WalksAsWorker, WalksOn, empty_has_none, walk_after, walk_wants_above}
 use Rattle.hb_core.proofs.Facts.Ways.{KeepsAllButDisk, nothing_done}
 use Rattle.hb_core.specs.Acting.{DoesRow}
@@ -93,39 +93,23 @@ merging_stands st job height next grows (inr (below, is)) = subst (StandsByJob s
 
 -- ---- each step
 
-module _ (m : Machine) (actor : ℕ) (outcome : Outcome) (new : Machine) (may : IsActor actor) (kept : MachineKeeps m) (step : StepsTo m actor outcome new) where
-  other_stands : (other : ℕ) → other ≢ actor → m.store.meta.height ≤ new.store.meta.height → StandsByJob new.store (m.activity other)
-  other_stands other another grows = elim (may_or_not other) [
-    | inl latches ↦ stands_again m.store new.store (walk_held (m.activity other)) (walking_job (m.activity other)) grows
-        (λ id page holds live. let both = other_walks m actor outcome new may kept.latches_fit kept.pages_of_file step other another latches id holds in both.1.before ∙ sym both.1.after ∙ live) (kept.workers_stand other)
-    | inr none ↦ none_stands new.store (m.activity other) (ap walking_job (kept.nobody_else other none))
-  ]
+-- where the page that its walk holds stays
+pub works_held : (m : Machine) → LatchesFit m → (actor : ℕ) (st : StoreState) → m.store.meta.height ≤ st.meta.height → HasHeld m actor st → StandsByJob m.store (m.activity actor) → StandsByJob st (m.activity actor)
+works_held m fit actor st grows has stands = stands_again m.store st (walk_held (m.activity actor)) (walking_job (m.activity actor)) grows
+    (λ id page walks live. let both = walk_stays m fit actor id st has walks in ap if_live both.1 ∙ sym (ap if_live both.2) ∙ live) stands
 
+module _ (m : Machine) (actor : ℕ) (outcome : Outcome) (new : Machine) (may : IsActor actor) (kept : MachineKeeps m) (step : StepsTo m actor outcome new) where
   grown : (fetched : StoreState) (deed : Deed) → fetched.meta ≡ m.store.meta → Performs m fetched actor deed outcome new → m.store.meta.height ≤ new.store.meta.height
   grown fetched deed same performs = (deed_keeps_meta deed.op _ m.store.meta fetched new.store same performs.store).height
 
   performed : (fetched : StoreState) (deed : Deed) → fetched.meta ≡ m.store.meta → Performs m fetched actor deed outcome new → StandsByJob new.store deed.next → WorkersStand new
   performed fetched deed same performs own =
-      each_again (λ (other : ℕ) (activity : Activity). StandsByJob new.store activity) m.activity new.activity actor deed.next performs.activity own (λ other another. other_stands other another (grown fetched deed same performs))
+      each_again (λ (other : ℕ) (activity : Activity). StandsByJob new.store activity) m.activity new.activity actor deed.next performs.activity own (λ other another. works_held m kept.latches_fit other new.store (grown fetched deed same performs) (other_held m actor outcome new may kept.latches_fit kept.pages_of_file step other another) (kept.workers_stand other))
 
-  -- all but the disk stays, and so does the page that the actor holds
+  -- all but the disk stays, and so do the pages that are held
   keeps : KeepsAllButDisk m new → new.store.meta ≡ m.store.meta → WorkersStand new
-  keeps stays meta other = subst (λ (all : ℕ → Activity). StandsByJob new.store (all other)) (sym stays.activity) (elim (cases_Bool (other == actor)) [
-    | inl here ↦ subst (λ (n : ℕ). StandsByJob new.store (m.activity n)) (sym (eqb-true other actor here)) own
-    | inr off ↦ other_stands other (eqb-false other actor off) same_height
-  ])
-    where
-      same_height : m.store.meta.height ≤ new.store.meta.height
-      same_height = omega (arith, ap (λ (x : Meta). x.height) meta)
-
-      still : (id : ℕ) (page : LivePage) → walk_held (m.activity actor) ≡ Some id → live_here new.store id ≡ Some page → live_here m.store id ≡ Some page
-      still id page holds live =
-          let old = kept.latches_fit.walking actor id may holds in
-          let latch = walk_latched (m.activity actor) m.store id old.0 holds (ap if_live old.1) in
-          ap if_live old.1 ∙ sym (ap if_live (stays.memory id (Live old.0) (inl (actor, latch.0, kept.latches_fit.exact actor id may ∙ latch.1)) old.1)) ∙ live
-
-      own : StandsByJob new.store (m.activity actor)
-      own = stands_again m.store new.store (walk_held (m.activity actor)) (walking_job (m.activity actor)) same_height still (kept.workers_stand actor)
+  keeps stays meta other = subst (λ (all : ℕ → Activity). StandsByJob new.store (all other)) (sym stays.activity)
+      (works_held m kept.latches_fit other new.store (omega (arith, ap (λ (x : Meta). x.height) meta)) (λ id mode page holds there. stays.memory id (Live page) (inl (other, mode, holds)) there) (kept.workers_stand other))
 
   posts : (deed : Deed) → TakesJob m deed → Performs m m.store actor deed outcome new → WorkersStand new
   posts deed takes performs = performed m.store deed refl performs

@@ -1,5 +1,6 @@
 use Rattle.hb_core.proofs.laws.a_step_leaves_other_actors_alone.Goals as goal
-use Rattle.hb_core.proofs.Facts.Ways.{order_grows, others_stay}
+use Rattle.hb_core.proofs.Facts.Ways.{order_grows}
+use Rattle.hb_core.proofs.Facts.StillThere.{others_stay}
 
 pub returns-clause-others : goal.returns-clause-others
 returns-clause-others c = others_stay
