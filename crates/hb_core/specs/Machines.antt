@@ -1,5 +1,5 @@
 -- The state of the step machine: all that a step looks at or changes, as data.
-use Rattle.std.specs.Prelude.{ℕ, ◌==◌, ◌+◌, nat_lt, if◌then◌else◌, List, [], ◌∷◌, length, Option, Some, None}
+use Rattle.std.specs.Prelude.{◌≢◌, AllPairs, ℕ, ◌==◌, ◌+◌, nat_lt, if◌then◌else◌, List, [], ◌∷◌, length, Option, Some, None}
 use Rattle.std.specs.Option.{option_and_then}
 use Rattle.hb_frag.specs.declared.pages.LivePage.{LivePage}
 use Rattle.hb_frag.specs.declared.pages.Page.{Page}
@@ -67,6 +67,10 @@ latches_held st activity = held_of activity (option_and_then (live_here st) (wal
 abbrev pub mode_among : ℕ → List Latch → Option Mode
 mode_among page [] = None
 mode_among page (latch ∷ rest) = if latch.page == page then Some latch.mode else mode_among page rest
+
+-- latches on different pages
+abbrev pub AreApart : List Latch → Type 0
+AreApart latches = AllPairs (λ (l : Latch) (m : Latch). l.page ≢ m.page) latches
 
 -- In which mode each actor has latched each page: as its activity says. Under no number but an actor's anybody stands who holds one.
 abbrev pub modes : Machine → ℕ → ℕ → Option Mode

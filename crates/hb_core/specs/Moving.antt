@@ -1,7 +1,7 @@
 -- What the private calls of a core make of it, said of what it holds.
 use Rattle.hb_activity.specs.declared.jobs.Job.{Job}
 use Rattle.hb_activity.specs.Queue.{AddsJobs}
-use Rattle.std.specs.Prelude.{◌≡◌, ◌≢◌, ℕ, ◌≤◌, AllPairs, List, [], ◌∷◌, ◌++◌, length, false, Option, Some, None, IsSome, option_map}
+use Rattle.std.specs.Prelude.{◌≡◌, ℕ, ◌≤◌, List, [], ◌∷◌, ◌++◌, length, false, Option, Some, None, IsSome, option_map}
 use Rattle.std.specs.Option.{option_and_then}
 use Rattle.hb_latch.specs.declared.modes.Mode.{Mode}
 use Rattle.hb_activity.specs.declared.activities.Activity.{Activity}
@@ -25,13 +25,9 @@ use Rattle.hb_core.specs.declared.outcomes.Outcome.TheVariants as outcomes
 pub use Rattle.hb_core.specs.Committing.{KeepsFilesBy, MayCommit, later_with}
 pub use Rattle.hb_core.specs.CoreUpdates.{StandsAs, with_counts, with_jobs, with_latches, with_order, with_order_of_use, with_standing, with_stop, with_store}
 use Rattle.hb_core.specs.Counts.{counted_by}
-use Rattle.hb_core.specs.Machines.{live_here}
+use Rattle.hb_core.specs.Machines.{AreApart, live_here}
 use Rattle.hb_core.specs.Performing.{ChangesQueue, MayDo, Relatches, latches_held, mode_among, outcome_of}
 use Rattle.hb_core.specs.Showing.{RunningCore}
-
--- latches on different pages
-abbrev pub AreApart : List Latch → Type 0
-AreApart latches = AllPairs (λ (l : Latch) (m : Latch). l.page ≢ m.page) latches
 
 -- An actor may have these latches: they are two at most, on different pages, and nobody is in the way.
 pub record MayHave (who : ℕ) (modes : HeldModes) (latches : List Latch) : Type 0 where

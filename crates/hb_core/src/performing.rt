@@ -18,9 +18,9 @@ ghost use Rattle.hb_core.specs.CoreSeen.{core_seen, core_disk, Alters, ChangesBy
 ghost use Rattle.hb_core.specs.Counts.{counted_by};
 ghost use Rattle.hb_core.specs.GivingUp.{gives_up, reply_for};
 ghost use Rattle.hb_core.specs.KeptFits.{class_for};
-ghost use Rattle.hb_core.specs.Machines.{live_here};
+ghost use Rattle.hb_core.specs.Machines.{AreApart, live_here};
 ghost use Rattle.std.specs.Option.{option_to_list};
-ghost use Rattle.hb_core.specs.Moving.{AreApart, DoesDeed, KeepsFilesBy, KeepsStaying, MayCommit, MayHave, MayStand, Queues, StandsFree, StandsNow, StandsAs, joins_order, number_of, placed, placed_at, said, with_counts, with_jobs, with_latches, with_order, with_order_of_use, with_store};
+ghost use Rattle.hb_core.specs.Moving.{DoesDeed, KeepsFilesBy, KeepsStaying, MayCommit, MayHave, MayStand, Queues, StandsFree, StandsNow, StandsAs, joins_order, number_of, placed, placed_at, said, with_counts, with_jobs, with_latches, with_order, with_order_of_use, with_store};
 ghost use Rattle.hb_core.specs.Performing.{MayDo, Relatches, latches_held, mode_among};
 ghost use Rattle.hb_core.specs.Pinning.{CanMovePins, CanPin, CanUnpin};
 ghost use Rattle.hb_core.specs.Using.{pages_of, pin_each, unpin_each, use_done};

@@ -23,9 +23,8 @@ use Rattle.hb_activity.specs.Walks.{walk_held}
 use Rattle.hb_core.specs.Fetching.{Brings}
 use Rattle.hb_core.specs.Keeps.{HasRoomFor, HoldsPagesOfFile, KnowsRoom, LatchesFit}
 use Rattle.hb_core.specs.KeptMerges.{NamesKnown, PairHeld, merging_at}
-use Rattle.hb_core.specs.Machines.{Machine, live_here}
+use Rattle.hb_core.specs.Machines.{AreApart, Machine, live_here}
 use Rattle.hb_core.specs.Performing.{latches_held, mode_among}
-use Rattle.hb_core.specs.Moving.{AreApart}
 use Rattle.hb_core.specs.Using.{pages_of}
 use Rattle.hb_core.proofs.Machines.PinCounts.{one_if}
 use Rattle.hb_core.proofs.Machines.PinsFollow.{times}
