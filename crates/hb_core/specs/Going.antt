@@ -2,11 +2,11 @@
 use Rattle.std.specs.Prelude.{◌≡◌, ℕ, None, IfSome}
 use Rattle.hb_activity.specs.declared.activities.Activity.{Activity}
 use Rattle.hb_activity.specs.declared.activities.Activity.TheVariants as at
-use Rattle.hb_core.specs.Asking.{HasWayFree}
-use Rattle.hb_core.specs.KeptMachine.{MachineKeeps}
-use Rattle.hb_core.specs.Keeps.{HasSoundFile}
-use Rattle.hb_core.specs.Machines.{Machine}
-use Rattle.hb_core.specs.Steps.{IsUnready}
+use Rattle.hb_steps.specs.Asking.{HasWayFree}
+use Rattle.hb_steps.specs.KeptMachine.{MachineKeeps}
+use Rattle.hb_steps.specs.Keeps.{HasSoundFile}
+use Rattle.hb_steps.specs.Machines.{Machine}
+use Rattle.hb_steps.specs.Steps.{IsUnready}
 
 -- What is known of a machine of which a core takes a step: it keeps what every machine keeps, and its files are sound.
 pub record MayGoOn (m : Machine) : Type 0 where

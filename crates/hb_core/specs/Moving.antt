@@ -17,16 +17,16 @@ use Rattle.hb_space.specs.Actors.{IsActor}
 use Rattle.hb_ops.specs.declared.operations.Op.{Op}
 use Rattle.hb_set.specs.Order.{Entry}
 use Rattle.hb_store.specs.Calls.{StaysHere}
-use Rattle.hb_core.specs.Using.{is_changed, pages_of, use_done, use_held}
+use Rattle.hb_steps.specs.Using.{is_changed, pages_of, use_done, use_held}
 use Rattle.hb_store.specs.Held.{IsTied}
 use Rattle.hb_store.specs.States.{StoreState, in_memory}
-use Rattle.hb_core.specs.declared.outcomes.Outcome.{Outcome}
-use Rattle.hb_core.specs.declared.outcomes.Outcome.TheVariants as outcomes
+use Rattle.hb_steps.specs.declared.outcomes.Outcome.{Outcome}
+use Rattle.hb_steps.specs.declared.outcomes.Outcome.TheVariants as outcomes
 pub use Rattle.hb_core.specs.Committing.{KeepsFilesBy, MayCommit, later_with}
 pub use Rattle.hb_core.specs.CoreUpdates.{StandsAs, with_counts, with_jobs, with_latches, with_order, with_order_of_use, with_standing, with_stop, with_store}
 use Rattle.hb_core.specs.Counts.{counted_by}
-use Rattle.hb_core.specs.Machines.{AreApart, live_here}
-use Rattle.hb_core.specs.Performing.{ChangesQueue, MayDo, Relatches, latches_held, mode_among, outcome_of}
+use Rattle.hb_steps.specs.Machines.{AreApart, live_here}
+use Rattle.hb_steps.specs.Performing.{ChangesQueue, MayDo, Relatches, latches_held, mode_among, outcome_of}
 use Rattle.hb_core.specs.Showing.{RunningCore}
 
 -- An actor may have these latches: they are two at most, on different pages, and nobody is in the way.

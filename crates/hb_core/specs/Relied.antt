@@ -8,11 +8,11 @@ use Rattle.hb_activity.specs.declared.activities.Activity.{Activity}
 use Rattle.hb_activity.specs.declared.activities.Activity.TheVariants as at
 use Rattle.hb_activity.specs.declared.wanting.Wanted.{Wanted}
 use Rattle.hb_store.specs.States.{in_memory}
-use Rattle.hb_core.specs.Asking.{wanted_by}
+use Rattle.hb_steps.specs.Asking.{wanted_by}
 use Rattle.hb_core.specs.CoreUpdates.{StandsAs}
-use Rattle.hb_core.specs.KeptFits.{LineFits}
-use Rattle.hb_core.specs.Looking.{MayLook}
-use Rattle.hb_core.specs.Machines.{Machine}
+use Rattle.hb_steps.specs.KeptFits.{LineFits}
+use Rattle.hb_steps.specs.Looking.{MayLook}
+use Rattle.hb_steps.specs.Machines.{Machine}
 use Rattle.hb_core.specs.Showing.{RunningCore}
 use Rattle.hb_core.specs.Taking.{HaveBoxes}
 use Rattle.hb_core.specs.Going.{IsWorking, MayWork}

@@ -14,9 +14,9 @@ use Rattle.hb_pool.specs.Frames.{Use}
 use Rattle.hb_store.specs.States.{StoreState}
 use Rattle.hb_store.specs.declared.stops.StopWhy.{StopWhy}
 use Rattle.hb_core.specs.declared.counts.TidyCounts.{TidyCounts}
-use Rattle.hb_core.specs.Keeps.{HasNobodyElse}
-use Rattle.hb_core.specs.KeptSequence.{HasAnswer}
-use Rattle.hb_core.specs.Machines.{Files, Machine, modes}
+use Rattle.hb_steps.specs.Keeps.{HasNobodyElse}
+use Rattle.hb_steps.specs.KeptSequence.{HasAnswer}
+use Rattle.hb_steps.specs.Machines.{Files, Machine, modes}
 
 -- What a core holds. It has no replies of the order, no answers and no files: these are in the machines that it shows.
 pub record RunningCore : Type 0 where

@@ -17,12 +17,12 @@ use Rattle.hb_set.specs.declared.commands.Reply.TheVariants as replies
 use Rattle.hb_set.specs.declared.scripts.Line.{Line}
 use Rattle.hb_pool.specs.Frames.{Use}
 use Rattle.hb_store.specs.States.{StoreState}
-use Rattle.hb_core.specs.declared.outcomes.Outcome.{Outcome}
-use Rattle.hb_core.specs.declared.outcomes.Outcome.TheVariants as outcomes
+use Rattle.hb_steps.specs.declared.outcomes.Outcome.{Outcome}
+use Rattle.hb_steps.specs.declared.outcomes.Outcome.TheVariants as outcomes
 use Rattle.hb_boxlock.specs.Locking.{Excludes}
 use Rattle.hb_core.specs.Counts.{no_counts}
 use Rattle.hb_core.specs.Moving.{DoesDeed, with_standing}
-use Rattle.hb_core.specs.Performing.{Relatches}
+use Rattle.hb_steps.specs.Performing.{Relatches}
 use Rattle.hb_core.specs.Showing.{RunningCore}
 
 -- At a place of the activities, actor 1 first, another actor stands whose lock excludes this one; it is the first such; there is none.

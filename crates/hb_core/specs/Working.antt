@@ -5,22 +5,22 @@ use Rattle.hb_activity.specs.declared.activities.Activity.{Activity}
 use Rattle.hb_activity.specs.declared.activities.Activity.TheVariants as at
 use Rattle.hb_frag.specs.declared.pages.LivePage.{LivePage}
 use Rattle.hb_store.specs.declared.stops.StopWhy.TheVariants.{Damaged, WriteFault}
-use Rattle.hb_core.specs.Using.{CameFor, use_number, use_wanted}
+use Rattle.hb_steps.specs.Using.{CameFor, use_number, use_wanted}
 use Rattle.hb_pool.specs.Frames.{Use}
 use Rattle.hb_store.specs.Fetching.{use_numbered}
 use Rattle.hb_store.specs.Held.{IsTied}
 use Rattle.hb_store.specs.States.{StoreState}
 use Rattle.hb_core.specs.declared.halts.Halt.{Halt}
 use Rattle.hb_core.specs.declared.halts.Halt.TheVariants.{GivesUp, Stops}
-use Rattle.hb_core.specs.Acting.{GivesUpFor, IsBadWanted, MayNeed, NeedsNumber}
-use Rattle.hb_core.specs.Asking.{HasWayFree, asked_box, wanted_by}
-use Rattle.hb_core.specs.Fetching.{Brings, IsBadHead, IsFreeHead, IsWantedPage}
+use Rattle.hb_steps.specs.Acting.{GivesUpFor, IsBadWanted, MayNeed, NeedsNumber}
+use Rattle.hb_steps.specs.Asking.{HasWayFree, asked_box, wanted_by}
+use Rattle.hb_steps.specs.Fetching.{Brings, IsBadHead, IsFreeHead, IsWantedPage}
 use Rattle.hb_core.specs.Going.{MayGoOn, MayWork}
-use Rattle.hb_core.specs.Machines.{Machine, next_of, with_disk, with_uses}
+use Rattle.hb_steps.specs.Machines.{Machine, next_of, with_disk, with_uses}
 use Rattle.hb_core.specs.Moving.{with_standing}
-use Rattle.hb_core.specs.Rows.{IsAtHand}
+use Rattle.hb_steps.specs.Rows.{IsAtHand}
 use Rattle.hb_core.specs.Showing.{RunningCore, ShowsMachine}
-use Rattle.hb_core.specs.Steps.{IsUnready}
+use Rattle.hb_steps.specs.Steps.{IsUnready}
 
 -- A core over a disk shows such a machine.
 pub record MayStep (d : DiskModel) (c : RunningCore) (m : Machine) : Type 0 where

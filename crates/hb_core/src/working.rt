@@ -2,21 +2,21 @@
 ghost use Rattle.std.specs.Prelude.{◌≡◌, ◌⊎◌, ◌↔◌, ◌≤◌, ◌++◌, length, None, IsTrue, IfOk, IfErr, IsErrAnd, IfSome, IsSomeAnd};
 ghost use Rattle.hb_latch.specs.Tables.{IsGrantable, IsLeastInTheWay, mode_at};
 ghost use Rattle.hb_activity.specs.Classes.{hand_of};
-ghost use Rattle.hb_core.specs.Acting.{DoesRow};
+ghost use Rattle.hb_steps.specs.Acting.{DoesRow};
 ghost use Rattle.hb_activity.specs.Wanting.{may_commit};
 ghost use Rattle.hb_pool.specs.Pools.{places};
 ghost use Rattle.hb_store.specs.Calls.{HasPlaces, IsReady};
 ghost use Rattle.hb_store.specs.States.{in_memory};
-ghost use Rattle.hb_core.specs.Asking.{looked_live};
+ghost use Rattle.hb_steps.specs.Asking.{looked_live};
 ghost use Rattle.hb_core.specs.CoreSeen.{core_seen, core_disk, ChangesBy};
 ghost use Rattle.hb_core.specs.Counting.{CountsPart};
-ghost use Rattle.hb_core.specs.Machines.{Machine};
+ghost use Rattle.hb_steps.specs.Machines.{Machine};
 ghost use Rattle.hb_core.specs.Moving.{StandsAs, number_of, with_order_of_use};
-ghost use Rattle.hb_core.specs.Performing.{latches_held};
+ghost use Rattle.hb_steps.specs.Performing.{latches_held};
 ghost use Rattle.hb_core.specs.Pinning.{CanUnpin};
-ghost use Rattle.hb_core.specs.Using.{page_wanted, pages_of, unpin_each};
+ghost use Rattle.hb_steps.specs.Using.{page_wanted, pages_of, unpin_each};
 ghost use Rattle.hb_core.specs.Showing.{ShowsMachine};
-ghost use Rattle.hb_core.specs.Steps.{Works};
+ghost use Rattle.hb_steps.specs.Steps.{Works};
 ghost use Rattle.hb_disk.specs.Calls.{ReadsOnly};
 ghost use Rattle.hb_core.specs.Touching.{IsReadHalt, Touches};
 ghost use Rattle.hb_core.specs.Going.{IsWorking, MayWork};
@@ -24,8 +24,8 @@ ghost use Rattle.hb_core.specs.Working.{Halts, HaltsPinned, HasCome, IsStop, May
 ghost use Rattle.hb_core.specs.Relied.{IsAtWork, MayDoRow, MayLookFor, MayNumber};
 
 use crate::halts::Halt;
-use crate::machine_laws::rows_may_be_done;
-use crate::outcomes::Outcome;
+use hb_steps::machine_laws::rows_may_be_done;
+use hb_steps::Outcome;
 use crate::state::Core;
 use arrayvec::ArrayVec;
 use hb_activity::Wanted;

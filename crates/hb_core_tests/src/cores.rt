@@ -6,8 +6,8 @@ ghost use Rattle.hb_store.specs.Keeps.{StoreKeeps};
 ghost use Rattle.hb_store.specs.Seen.{disk_of, seen_as};
 ghost use Rattle.hb_store.specs.States.{IsNew};
 ghost use Rattle.hb_core.specs.CoreSeen.{core_seen, core_disk};
-ghost use Rattle.hb_core.specs.KeptFits.{CommandFits};
-ghost use Rattle.hb_core.specs.KeptLines.{HasBody};
+ghost use Rattle.hb_steps.specs.KeptFits.{CommandFits};
+ghost use Rattle.hb_steps.specs.KeptLines.{HasBody};
 ghost use Rattle.hb_core_tests.specs.Begun.{IsBegunCore, IsFitLine, IsFitScript};
 
 use hb_core::Core;

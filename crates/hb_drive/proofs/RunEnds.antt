@@ -14,7 +14,7 @@ use Rattle.hb_text.specs.Output.{answer_text, left_text, order_text}
 use Rattle.hb_wal.specs.Log.{mark_of}
 use Rattle.hb_core.specs.declared.endings.End.{End}
 use Rattle.hb_core.specs.declared.endings.End.TheVariants as ends
-use Rattle.hb_core.specs.Machines.{Machine, settled_count}
+use Rattle.hb_steps.specs.Machines.{Machine, settled_count}
 use Rattle.hb_core.specs.Runs.{left_numbers}
 use Rattle.hb_core.specs.Showing.{RunningCore, ShowsMachine}
 use Rattle.hb_drive.specs.Driving.{EndsWith, IsEndOf, LeavesEnd, run_text}

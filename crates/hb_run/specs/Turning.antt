@@ -7,10 +7,10 @@ use Rattle.hb_activity.specs.declared.activities.Activity.{Activity}
 use Rattle.hb_activity.specs.declared.jobs.JobKind.{JobKind}
 use Rattle.hb_activity.specs.declared.jobs.JobKind.TheVariants.{Post, Merge}
 use Rattle.hb_wal.specs.Log.{mark_of, room_of}
-use Rattle.hb_core.specs.declared.outcomes.Outcome.{Outcome}
-use Rattle.hb_core.specs.declared.outcomes.Outcome.TheVariants as outcomes
+use Rattle.hb_steps.specs.declared.outcomes.Outcome.{Outcome}
+use Rattle.hb_steps.specs.declared.outcomes.Outcome.TheVariants as outcomes
 use Rattle.hb_core.specs.Showing.{RunningCore}
-use Rattle.hb_core.specs.ProgressLaws.{jobs_in_work, worker_for}
+use Rattle.hb_steps.specs.ProgressLaws.{jobs_in_work, worker_for}
 use Rattle.hb_run.specs.Courses.{Course}
 use Rattle.hb_run.specs.declared.turns.Turn.{Turn}
 use Rattle.hb_run.specs.declared.turns.Turn.TheVariants as turns

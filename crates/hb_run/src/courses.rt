@@ -2,8 +2,8 @@
 ghost use Rattle.std.specs.Prelude.{◌≡◌, ◌≢◌, ◌⊎◌, ◌≤◌, ℕ, ◌+◌, ◌-◌, ◌==◌, ◌||◌, ◌&&◌, nat_lt, not, true, false, is_some, length, vec_len, vec_capacity};
 ghost use Rattle.std.specs.List.{slice_get};
 ghost use Rattle.hb_core.specs.CoreSeen.{core_seen, core_disk};
-ghost use Rattle.hb_core.specs.declared.outcomes.Outcome.{Outcome};
-ghost use Rattle.hb_core.specs.Performing.{given_by};
+ghost use Rattle.hb_steps.specs.declared.outcomes.Outcome.{Outcome};
+ghost use Rattle.hb_steps.specs.Performing.{given_by};
 ghost use Rattle.hb_core.specs.Relied.{MayTakeSteps};
 ghost use Rattle.hb_space.specs.declared.actors.TheConstants.{FLUSHER};
 ghost use Rattle.hb_run.specs.Courses.{ShowsLeft, TakesTurn};

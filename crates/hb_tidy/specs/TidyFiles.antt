@@ -5,7 +5,7 @@ use Rattle.hb_activity.specs.declared.activities.Activity.TheVariants as at
 use Rattle.hb_ops.specs.Files.{FileState}
 use Rattle.hb_pool.specs.Frames.{Use}
 use Rattle.hb_pool.specs.Pools.{IsPool}
-use Rattle.hb_core.specs.Machines.{Machine}
+use Rattle.hb_steps.specs.Machines.{Machine}
 use Rattle.hb_tidy.specs.Finding.{IsTidy}
 use Rattle.hb_tidy.specs.Tidying.{file_now}
 use Rattle.hb_tidy.specs.Working.{Comes, Event, Steps, WorksOff, steps_in}

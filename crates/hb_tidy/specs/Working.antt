@@ -6,14 +6,14 @@ use Rattle.hb_store.specs.Fetching.{IsCrowdedOut}
 use Rattle.hb_store.specs.declared.stops.StopWhy.TheVariants as whys
 use Rattle.hb_store.specs.declared.stops.Why.{Why}
 use Rattle.hb_core.specs.Between.{LetsWait, PageComes}
-use Rattle.hb_core.specs.Fetching.{IsBadRead}
-use Rattle.hb_core.specs.Machines.{Machine, stopped_for}
-use Rattle.hb_core.specs.ProgressLaws.{HasToDo}
+use Rattle.hb_steps.specs.Fetching.{IsBadRead}
+use Rattle.hb_steps.specs.Machines.{Machine, stopped_for}
+use Rattle.hb_steps.specs.ProgressLaws.{HasToDo}
 use Rattle.hb_core.specs.Showing.{RunningCore}
-use Rattle.hb_core.specs.Steps.{StepsTo}
-use Rattle.hb_core.specs.SteppingLaws.{IsAtRest}
-use Rattle.hb_core.specs.declared.outcomes.Outcome.{Outcome}
-use Rattle.hb_core.specs.declared.outcomes.Outcome.TheVariants as outcomes
+use Rattle.hb_steps.specs.Steps.{StepsTo}
+use Rattle.hb_steps.specs.SteppingLaws.{IsAtRest}
+use Rattle.hb_steps.specs.declared.outcomes.Outcome.{Outcome}
+use Rattle.hb_steps.specs.declared.outcomes.Outcome.TheVariants as outcomes
 use Rattle.hb_tidy.specs.declared.stops.TidyStop.{TidyStop}
 use Rattle.hb_tidy.specs.Owed.{IsJobOwed}
 use Rattle.hb_tidy.specs.Tidying.{file_now}

@@ -1,10 +1,10 @@
 //! Steps of the workers and flushes, and why they end a tidying.
 ghost use Rattle.std.specs.Prelude.{◌≡◌, ◌⊎◌, ◌+◌, ◌<◌, OnOk};
 ghost use Rattle.hb_core.specs.CoreSeen.{core_seen, core_disk};
-ghost use Rattle.hb_core.specs.Machines.{Machine};
+ghost use Rattle.hb_steps.specs.Machines.{Machine};
 ghost use Rattle.hb_core.specs.Showing.{ShowsMachine};
-ghost use Rattle.hb_core.specs.ProgressLaws.{jobs_of};
-ghost use Rattle.hb_core.specs.ProgressLaws.{worker_for};
+ghost use Rattle.hb_steps.specs.ProgressLaws.{jobs_of};
+ghost use Rattle.hb_steps.specs.ProgressLaws.{worker_for};
 ghost use Rattle.hb_tidy.specs.Going.{AllRest, Goes};
 ghost use Rattle.hb_tidy.specs.Looking.{LooksOver, NothingOf};
 ghost use Rattle.hb_tidy.specs.Stepping.{EndsCall, EndsStep, MayMakeRoom, MayTakeStep, MayWorkOff, TakesStep, stop_by};

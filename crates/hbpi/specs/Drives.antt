@@ -1,10 +1,10 @@
 -- What the steps of a run over a file come to.
 use Rattle.std.specs.Prelude.{◌≡◌, ℕ, ◌+◌, ◌≤◌, List, map, take, All, None, IfSome}
-use Rattle.hb_core.specs.Machines.{Machine, settled_count}
-use Rattle.hb_core.specs.MomentLaws.{IsPrefixImage}
+use Rattle.hb_steps.specs.Machines.{Machine, settled_count}
+use Rattle.hb_steps.specs.MomentLaws.{IsPrefixImage}
 use Rattle.hb_core.specs.Runs.{AreAnswers, CountsFaults, HoldsSince}
-use Rattle.hb_core.specs.Steps.{StepsInSequence}
-use Rattle.hb_core.specs.SteppingLaws.{IsBegun, IsBegunOver}
+use Rattle.hb_steps.specs.Steps.{StepsInSequence}
+use Rattle.hb_steps.specs.SteppingLaws.{IsBegun, IsBegunOver}
 use Rattle.hb_disk.specs.Calls.{Leaves}
 use Rattle.hb_disk.specs.Model.{DiskModel}
 use Rattle.hb_space.specs.Actors.{IsActor}

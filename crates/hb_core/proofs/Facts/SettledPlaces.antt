@@ -1,10 +1,6 @@
 -- The places that are settled are those of the machine that a core shows.
-use Rattle.std.proofs.Common.{◌≡◌, length, ap, ◌∙◌}
-use Rattle.hb_core.specs.Machines.{Machine, settled_count}
-use Rattle.hb_core.specs.Showing.{RunningCore, ShowsMachine}
+use Rattle.hb_core.proofs.Facts.Names.{◌≡◌, length, ap, ◌∙◌, Machine, settled_count, RunningCore, ShowsMachine, DiskModel, StoreState}
 use Rattle.hb_core.proofs.Running.StandsElsewhere.{shown_length}
-use Rattle.hb_disk.specs.Model.{DiskModel}
-use Rattle.hb_store.specs.States.{StoreState}
 use Rattle.hb_wal.specs.Log.{mark_of}
 
 pub same_settled : (d : DiskModel) (c : RunningCore) (m : Machine) → ShowsMachine d c m → settled_count m ≡ mark_of c.store.log.groups (length c.order)

@@ -1,9 +1,9 @@
 -- A machine of which a caller changed no more than the jobs that wait, the pages in memory that nobody holds, and the stop, keeps what it
 -- kept.
 use Rattle.std.proofs.Common.{◌≡◌, ℕ, ◌<◌, ◌≤◌, ◌^◌, List, [], ◌∷◌, length, All, Option, Some, None, IfSome, refl, sym, ap, ◌∙◌, subst, arith}
-use Rattle.hb_core.proofs.Walks.WorkersKept.{works_held}
-use Rattle.hb_core.proofs.Memory.BroughtPages.{still_held}
-use Rattle.hb_core.proofs.Latches.SameLatches.{fit_again, HasHeld, same_modes}
+use Rattle.hb_steps.proofs.Walks.WorkersKept.{works_held}
+use Rattle.hb_steps.proofs.Memory.BroughtPages.{still_held}
+use Rattle.hb_steps.proofs.Latches.SameLatches.{fit_again, HasHeld, same_modes}
 use Rattle.std.proofs.lemmas.List.Elements.{All-cons, All-nil, All-weaker}
 use Rattle.hb_activity.specs.declared.activities.Activity.TheVariants as at
 use Rattle.hb_activity.specs.declared.jobs.Job.{Job}
@@ -19,23 +19,23 @@ use Rattle.hb_store.specs.Calls.{KeepsAllButPages}
 use Rattle.hb_store.specs.States.{StoreState}
 use Rattle.hb_store.specs.declared.stops.StopWhy.{StopWhy}
 use Rattle.hb_wal.specs.Log.{Waiting, mark_of}
-use Rattle.hb_core.proofs.Files.SoundFiles.{brought_shown, files_hold, has_sound_file}
-use Rattle.hb_core.proofs.Machines.AddedJobs.{JobsFit, added_fit}
-use Rattle.hb_core.proofs.Memory.KeptPages.{brought, keeps_pages, pages_kept}
-use Rattle.hb_core.proofs.Room.RoomKept.{all_know, knows_held}
+use Rattle.hb_steps.proofs.Files.SoundFiles.{brought_shown, files_hold, has_sound_file}
+use Rattle.hb_steps.proofs.Machines.AddedJobs.{JobsFit, added_fit}
+use Rattle.hb_steps.proofs.Memory.KeptPages.{brought, keeps_pages, pages_kept}
+use Rattle.hb_steps.proofs.Room.RoomKept.{all_know, knows_held}
 use Rattle.hb_core.proofs.Running.Frames.{fetched_pins}
-use Rattle.hb_core.proofs.Walks.WalksKept.{all_stand, each_stands, stands_held}
+use Rattle.hb_steps.proofs.Walks.WalksKept.{all_stand, each_stands, stands_held}
 use Rattle.hb_core.specs.Between.{LetsWait, PageComes, with_waiting}
 use Rattle.hb_core.specs.BetweenLaws.{LookingGoesOn, LookingKeepsAll, WaitingGoesOn, WaitingKeepsAll}
-use Rattle.hb_core.specs.Keeps.{HasSoundFile, HoldsPagesOfFile, KnowsRoom, LatchesFit, WalksInSpace}
-use Rattle.hb_core.specs.KeptFits.{AttributesFit, IsBoxOf, JobFits, LineFits, RunsWithStore, WorkersStand, boxes_left}
-use Rattle.hb_core.specs.KeptLines.{LinesFit, LogInPlace, MetaWithinLimits}
-use Rattle.hb_core.specs.KeptMachine.{CoreKeeps, MachineKeeps}
-use Rattle.hb_core.specs.KeptOrder.{FollowMarks, HasLegalOrder, HasPendingPrefix, IsSettledIn}
-use Rattle.hb_core.specs.KeptPlaces.{MarksRise, RepliesStand}
-use Rattle.hb_core.specs.KeptSequence.{IsInSequence, LinesInSequence}
-use Rattle.hb_core.specs.Machines.{Files, Machine, settled_count, stopped_for, with_disk, with_uses, modes}
-use Rattle.hb_core.specs.Using.{FramesFit, pins_of}
+use Rattle.hb_steps.specs.Keeps.{HasSoundFile, HoldsPagesOfFile, KnowsRoom, LatchesFit, WalksInSpace}
+use Rattle.hb_steps.specs.KeptFits.{AttributesFit, IsBoxOf, JobFits, LineFits, RunsWithStore, WorkersStand, boxes_left}
+use Rattle.hb_steps.specs.KeptLines.{LinesFit, LogInPlace, MetaWithinLimits}
+use Rattle.hb_steps.specs.KeptMachine.{CoreKeeps, MachineKeeps}
+use Rattle.hb_steps.specs.KeptOrder.{FollowMarks, HasLegalOrder, HasPendingPrefix, IsSettledIn}
+use Rattle.hb_steps.specs.KeptPlaces.{MarksRise, RepliesStand}
+use Rattle.hb_steps.specs.KeptSequence.{IsInSequence, LinesInSequence}
+use Rattle.hb_steps.specs.Machines.{Files, Machine, settled_count, stopped_for, with_disk, with_uses, modes}
+use Rattle.hb_steps.specs.Using.{FramesFit, pins_of}
 use Rattle.hb_core.specs.Going.{MayGoOn}
 
 module _ (m : Machine) (jobs : List Job) (st : StoreState) (uses : List Use) (stop : Option StopWhy) where

@@ -1,25 +1,8 @@
 -- A page that is fetched comes into the memory of each machine that a core shows.
-use Rattle.std.proofs.Common.{◌≡◌, ◌⊎◌, inl, inr, ℕ, ◌≤◌, ◌==◌, List, Option, Some, None, IfSome, IsSome, refl, sym, ap, ◌∙◌, subst}
+use Rattle.hb_core.proofs.Running.Names.{◌≡◌, ◌⊎◌, inl, inr, ℕ, ◌≤◌, ◌==◌, List, Option, Some, None, IfSome, IsSome, refl, sym, ap, ◌∙◌, subst, nat_cmp, cases_Bool, eqb-true, eqb-false, DiskModel, Page, Meta, at_value, has_value, not_none, some_value, FileState, page_of, Use, Fetched, KeepsAllButPages, LooksUp, StoreKeeps, IsGoodPage, IsMemory, StoreState, in_memory, Brings, MustStay, LatchesFit, Files, Machine, current_file, modes, with_disk, with_uses, same_held, HeldModes, with_order_of_use, with_store, RunningCore, ShowsFiles, ShowsMachine}
 use Rattle.std.specs.FinSet as set
-use Rattle.std.specs.Ordering.{nat_cmp}
-use Rattle.std.proofs.lemmas.Bool.{cases_Bool, eqb-true, eqb-false}
-use Rattle.hb_disk.specs.Model.{DiskModel}
-use Rattle.hb_frag.specs.declared.pages.Page.{Page}
-use Rattle.hb_layout.specs.declared.meta.Meta.{Meta}
-use Rattle.hb_lemmas.proofs.Options.{at_value, has_value, not_none, of_value, some_value}
-use Rattle.hb_ops.specs.Files.{FileState, page_of}
-use Rattle.hb_pool.specs.Frames.{Use}
-use Rattle.hb_store.specs.Calls.{Fetched, KeepsAllButPages, NoneComes}
-use Rattle.hb_store.specs.Fetching.{LooksUp}
-use Rattle.hb_store.specs.Keeps.{StoreKeeps}
-use Rattle.hb_store.specs.States.{IsGoodPage, IsMemory, StoreState, in_memory}
-use Rattle.hb_core.specs.Fetching.{Brings, MustStay}
-use Rattle.hb_core.specs.Keeps.{LatchesFit}
-use Rattle.hb_core.specs.Machines.{Files, Machine, current_file, modes, with_disk, with_uses}
-use Rattle.hb_core.proofs.Memory.BroughtPages.{same_held}
-use Rattle.hb_latch.specs.Tables.{HeldModes}
-use Rattle.hb_core.specs.Moving.{with_order_of_use, with_store}
-use Rattle.hb_core.specs.Showing.{RunningCore, ShowsFiles, ShowsMachine}
+use Rattle.hb_lemmas.proofs.Options.{of_value}
+use Rattle.hb_store.specs.Calls.{NoneComes}
 use Rattle.hb_core.proofs.Running.ForcedShows.{shown_with}
 
 module _ (m : Machine) (d e : DiskModel) (c : RunningCore) (failed : Type 0) (st : StoreState) (shows : ShowsMachine d c m) (looks : LooksUp failed d e c.store st) where

@@ -1,69 +1,21 @@
 -- The wanted page comes and is the one that was asked for, or the step halts.
-use Rattle.std.proofs.Common.{◌≡◌, ◌≢◌, ◌⊎◌, inl, inr, ℕ, false, List, [], ◌∷◌, Option, Some, None, IfSome, IsTrue, refl, sym, ap, ◌∙◌, subst, arith, ◌<◌}
-use Rattle.std.specs.Option.{IsSomeAnd, option_and_then, option_map, MatchOption}
-use Rattle.std.proofs.lemmas.List.Elements.{All-head}
-use Rattle.std.proofs.lemmas.Option.{same_Some}
-use Rattle.hb_disk.specs.Model.{DiskModel}
-use Rattle.hb_frag.specs.declared.leaves.Leaf.{Leaf}
-use Rattle.hb_frag.specs.declared.leaves.Leaf.TheVariants.{Records, Child, Sibling}
-use Rattle.hb_frag.specs.declared.pages.LivePage.{LivePage}
-use Rattle.hb_frag.specs.declared.pages.Page.{Page}
-use Rattle.hb_frag.specs.declared.pages.Page.TheVariants.{Live}
-use Rattle.hb_frag.specs.Leaves.{Placed, leaf_at}
-use Rattle.hb_latch.specs.declared.modes.Mode.{Mode}
-use Rattle.hb_latch.specs.declared.modes.Mode.TheVariants.{Shared, Exclusive}
-use Rattle.hb_space.specs.Actors.{IsActor}
-use Rattle.hb_layout.specs.declared.meta.Meta.{Meta}
-use Rattle.hb_lemmas.proofs.Options.{at_value, has_value, if_value, not_none}
-use Rattle.hb_ops.proofs.Facts.PageNumberLaws.{live_so}
-use Rattle.hb_ops.specs.Files.{FileState, last_of}
-use Rattle.hb_ops.specs.Sound.{IsSound}
-use Rattle.hb_space.specs.Boxes.{Area}
-use Rattle.hb_activity.specs.declared.wanting.Wanted.{Wanted}
-use Rattle.hb_activity.specs.declared.activities.Activity.{Activity}
+use Rattle.hb_core.proofs.Running.Names.{◌≡◌, ◌≢◌, ◌⊎◌, inl, inr, ℕ, false, List, [], ◌∷◌, Option, Some, None, IfSome, IsTrue, refl, sym, ap, ◌∙◌, subst, arith, ◌<◌, option_and_then, option_map, All-head, same_Some, DiskModel, Leaf, Records, Child, Sibling, LivePage, Page, Live, Placed, leaf_at, Mode, Shared, Exclusive, IsActor, Meta, at_value, has_value, if_value, not_none, live_so, FileState, last_of, IsSound, Area, Wanted, Activity, goal_of, job_mode, session_mode, child_of, in_mode, named_child, walk_next, wanted_page, names_child, Fetched, StaysHere, use_fetched, Breaks, FetchesNot, IsCrowdedOut, IsNoPage, LooksUp, StoreKeeps, IsMemory, StoreState, in_memory, FetchStop, Why, Rule, Level, Extent, Halt, Stops, files_hold, more_number, brings_none, LacksNeeded, MayNeed, AskedBox, around_box, asked_box, box_at, box_by_leaf, box_of_child, box_of_place, box_of_sibling, this_box, wanted_by, whole_box, Brings, IsWantedPage, HasSoundFile, NamesKnown, merging_at, MayLook, wanted_in, StandsAs, with_order_of_use, with_store, page_wanted, unpin_each, use_wanted, Use, pinned, unpinned, frame_of, in_place, places, put_last, IsTied, Files, Machine, current_file, live_here, modes, with_disk, with_uses, same_held, IsAtHand, RunningCore, ShowsMachine, IsHaltOf, IsWorking, MayWork, HasCome, Halts, IsHalt, MayStep}
+use Rattle.std.specs.Option.{IsSomeAnd, MatchOption}
 use Rattle.hb_activity.specs.declared.activities.Activity.TheVariants as at
-use Rattle.hb_activity.specs.Walks.{goal_of, job_mode, session_mode}
-use Rattle.hb_activity.specs.Wanting.{child_of, in_mode, named_child, named_page, walk_next, wanted_page}
-use Rattle.hb_consol.specs.ConsolidatorRows.{names_child}
-use Rattle.hb_store.specs.Calls.{Fetched, StaysHere, use_fetched}
-use Rattle.hb_store.specs.Fetching.{Breaks, FetchesNot, IsCrowdedOut, IsNoPage, LooksUp}
-use Rattle.hb_store.specs.Keeps.{StoreKeeps}
-use Rattle.hb_store.specs.States.{IsMemory, StoreState, in_memory}
-use Rattle.hb_store.specs.declared.stops.FetchStop.{FetchStop}
+use Rattle.hb_activity.specs.Wanting.{named_page}
 use Rattle.hb_store.specs.declared.stops.FetchStop.TheVariants as fetches
 use Rattle.hb_store.specs.declared.stops.StopWhy.TheVariants as stops
-use Rattle.hb_store.specs.declared.stops.Why.{Why}
-use Rattle.hb_store.specs.declared.stops.Why.TheVariants.{Rule, Level, Extent}
-use Rattle.hb_core.specs.declared.halts.Halt.{Halt}
-use Rattle.hb_core.specs.declared.halts.Halt.TheVariants.{Stops}
-use Rattle.hb_core.proofs.Files.SoundFiles.{current_sound, files_hold}
-use Rattle.hb_core.proofs.Machines.PinsFollow.{more_number}
+use Rattle.hb_steps.proofs.Files.SoundFiles.{current_sound}
 use Rattle.hb_core.proofs.Running.Brought.{brings_wider, fetch_brings, shows_store}
-use Rattle.hb_core.proofs.Memory.BroughtPages.{brings_none}
 use Rattle.hb_core.proofs.Running.Frames.{may_pin, shown_stays, shown_tied}
 use Rattle.hb_core.proofs.Running.Pins.{one_itself, pinned_frame, tied_unpinned}
 use Rattle.hb_core.proofs.Running.LeafBoxes.{Asks, child_asks_there, place_asks_there, sibling_asks_there}
 use Rattle.hb_core.proofs.Running.Looks.{may_look, names_stay, wants_same}
 use Rattle.hb_core.proofs.Running.StandsElsewhere.{shows_but, stands_as}
-use Rattle.hb_core.specs.Acting.{IsBadWanted, LacksNeeded, MayNeed}
-use Rattle.hb_core.specs.AskedBoxes.{IsNotAsked}
-use Rattle.hb_core.specs.Asking.{AskedBox, around_box, asked_box, box_at, box_by_leaf, box_of_child, box_of_place, box_of_sibling, this_box, wanted_by, whole_box}
-use Rattle.hb_core.specs.Fetching.{Brings, IsDamaged, IsWantedPage}
-use Rattle.hb_core.specs.Keeps.{HasSoundFile}
-use Rattle.hb_core.specs.KeptMerges.{NamesKnown, merging_at}
-use Rattle.hb_core.specs.Looking.{FailsTest, IsOfOtherLevel, MayLook, PassesTest, wanted_in}
-use Rattle.hb_core.specs.Moving.{StandsAs, with_order_of_use, with_store}
-use Rattle.hb_core.specs.Using.{page_wanted, unpin_each, use_wanted}
-use Rattle.hb_pool.specs.Frames.{Use, pinned, unpinned}
-use Rattle.hb_pool.specs.Pools.{frame_of, in_place, places, put_last}
-use Rattle.hb_store.specs.Held.{IsTied}
-use Rattle.hb_core.specs.Machines.{Files, Machine, current_file, live_here, modes, with_disk, with_uses}
-use Rattle.hb_core.proofs.Memory.BroughtPages.{same_held}
-use Rattle.hb_core.specs.Rows.{IsAtHand}
-use Rattle.hb_core.specs.Showing.{RunningCore, ShowsMachine}
-use Rattle.hb_core.specs.Stopping.{IsHaltOf}
-use Rattle.hb_core.specs.Going.{IsWorking, MayWork}
-use Rattle.hb_core.specs.Working.{HasCome, Halts, IsHalt, MayStep}
+use Rattle.hb_steps.specs.Acting.{IsBadWanted}
+use Rattle.hb_steps.specs.AskedBoxes.{IsNotAsked}
+use Rattle.hb_steps.specs.Fetching.{IsDamaged}
+use Rattle.hb_steps.specs.Looking.{FailsTest, IsOfOtherLevel, PassesTest}
 
 -- what a call that reads did, it did still after one that changes no page and no disk
 pub looks_kept : {failed : Type 0} {d e f : DiskModel} {old middle st : StoreState} → f ≡ e → st ≡ middle → LooksUp failed d e old middle → LooksUp failed d f old st

@@ -1,35 +1,15 @@
 -- What a deed makes of a core is a step's deed of the machine that it shows, and the core then shows what this leads to.
-use Rattle.std.proofs.Common.{◌≡◌, ◌≢◌, ℕ, ◌-◌, List, ◌++◌, length, map, slice_get, Option, Some, None, IsSome, refl, sym, ap, ◌∙◌, subst}
-use Rattle.std.proofs.lemmas.List.{length-map, map-append}
-use Rattle.hb_activity.specs.declared.activities.Activity.{Activity}
+use Rattle.hb_core.proofs.Running.Names.{◌≡◌, ◌≢◌, ℕ, ◌-◌, List, ◌++◌, length, Option, Some, None, IsSome, refl, sym, ap, ◌∙◌, subst, length-map, map-append, Activity, Job, Deed, DiskModel, Live, StoreState, in_memory, Brings, LatchesFit, table_follows, same_held, IsActor, at_itself, at_other, Op, Entry, Outcome, LinesInSequence, MustStay, StaysHere, Files, Machine, with_activity, DoesDeed, KeepsFilesBy, numbers_joined, with_standing, MayDo, Performs, outcome_of, RunningCore, ShowsFiles, ShowsMachine, ShowsBut, with_memory, option_to_list}
+use Rattle.std.proofs.Common.{map, slice_get}
 use Rattle.hb_activity.specs.declared.activities.Activity.TheVariants as at
-use Rattle.hb_activity.specs.declared.jobs.Job.{Job}
-use Rattle.hb_activity.specs.Deeds.{Deed}
-use Rattle.hb_disk.specs.Model.{DiskModel}
-use Rattle.hb_frag.specs.declared.pages.Page.TheVariants.{Live}
-use Rattle.hb_store.specs.States.{StoreState, in_memory}
-use Rattle.hb_core.specs.Fetching.{Brings}
-use Rattle.hb_core.specs.Keeps.{LatchesFit}
-use Rattle.hb_core.proofs.Facts.Ways.{nothing_done}
-use Rattle.hb_core.proofs.Latches.SameLatches.{HasHeld, table_follows}
-use Rattle.hb_core.proofs.Memory.BroughtPages.{same_held, still_held}
-use Rattle.hb_space.specs.Actors.{IsActor}
-use Rattle.hb_lemmas.proofs.Booleans.{at_itself, at_other}
-use Rattle.hb_ops.specs.declared.operations.Op.{Op}
-use Rattle.hb_set.specs.Order.{Entry}
-use Rattle.hb_core.specs.declared.outcomes.Outcome.{Outcome}
-use Rattle.hb_core.specs.KeptSequence.{LinesInSequence}
-use Rattle.hb_core.specs.Fetching.{MustStay}
-use Rattle.hb_store.specs.Calls.{StaysHere}
-use Rattle.hb_core.specs.Machines.{Files, Machine, with_activity}
-use Rattle.hb_core.specs.Moving.{DoesDeed, KeepsFilesBy, later_with, numbers_joined, with_standing}
-use Rattle.hb_core.specs.Performing.{ChangesQueue, MayDo, Performs, files_after, given_by, outcome_of}
-use Rattle.hb_core.specs.Showing.{RunningCore, ShowsFiles, ShowsMachine}
-use Rattle.hb_core.specs.Working.{ShowsBut, with_memory}
+use Rattle.hb_steps.proofs.Facts.Ways.{nothing_done}
+use Rattle.hb_steps.proofs.Latches.SameLatches.{HasHeld}
+use Rattle.hb_steps.proofs.Memory.BroughtPages.{still_held}
+use Rattle.hb_core.specs.Moving.{later_with}
+use Rattle.hb_steps.specs.Performing.{ChangesQueue, files_after, given_by}
 use Rattle.hb_core.proofs.Running.NumbersInHand.{NumberFate, line_of_number}
 use Rattle.hb_core.proofs.Running.StandsElsewhere.{stand_then, still_all}
 use Rattle.hb_core.proofs.Running.TurnsAfter.{has_turn, turn_after, turn_at}
-use Rattle.std.specs.Option.{option_to_list}
 
 -- the machine after a deed, with what the core holds then
 abbrev pub after_deed : RunningCore → Machine → ℕ → Deed → Machine

@@ -1,26 +1,12 @@
 -- A force of a core's store is a force of the machine that it shows, or stops it.
-use Rattle.std.proofs.Common.{◌≡◌, ◌≢◌, ◌⊎◌, inl, inr, ℕ, ◌+◌, ◌≤◌, List, [], ◌∷◌, Option, Some, None, IsSome, IfSome, Ok, Err, refl, sym, ap, ◌∙◌, subst, arith}
-use Rattle.std.specs.Option.{option_map}
-use Rattle.hb_disk.specs.Model.{DiskModel}
-use Rattle.hb_lemmas.proofs.Options.{was_some, not_there}
-use Rattle.hb_ops.specs.Files.{FileState, last_of}
-use Rattle.hb_store.specs.Forced.{WritesGroups, forced_state, stopped_state}
-use Rattle.hb_store.specs.Keeps.{StoreKeeps}
-use Rattle.hb_store.specs.States.{StoreState}
-use Rattle.hb_store.specs.declared.stops.StopWhy.{StopWhy}
+use Rattle.hb_core.proofs.Running.Names.{◌≡◌, ◌≢◌, ◌⊎◌, inl, inr, ℕ, ◌+◌, ◌≤◌, List, [], ◌∷◌, Option, Some, None, IsSome, IfSome, Ok, Err, refl, sym, ap, ◌∙◌, subst, arith, option_map, DiskModel, was_some, FileState, last_of, WritesGroups, forced_state, stopped_state, StoreKeeps, StoreState, StopWhy, Waiting, Outcome, FailsToWrite, ForcesAll, Files, Machine, modes, stopped_for, with_disk, with_uses, with_order_of_use, with_stop, with_store, Use, RunningCore, ShowsFiles, ShowsMachine, false≢true}
+use Rattle.hb_lemmas.proofs.Options.{not_there}
 use Rattle.hb_store.specs.declared.stops.StopWhy.TheVariants as stops
 use Rattle.hb_store.specs.declared.stops.WriteFault.{WriteFault}
 use Rattle.hb_wal.specs.Forces.{calls_of_force}
-use Rattle.hb_wal.specs.Log.{Waiting}
-use Rattle.hb_core.specs.declared.outcomes.Outcome.{Outcome}
-use Rattle.hb_core.specs.declared.outcomes.Outcome.TheVariants as outcomes
-use Rattle.hb_core.specs.Forcing.{FailsToWrite, ForcesAll, forced_files}
-use Rattle.hb_core.specs.Machines.{Files, Machine, modes, stopped_for, with_disk, with_uses}
-use Rattle.hb_core.specs.Moving.{with_order_of_use, with_stop, with_store}
+use Rattle.hb_steps.specs.declared.outcomes.Outcome.TheVariants as outcomes
+use Rattle.hb_steps.specs.Forcing.{forced_files}
 use Rattle.hb_disk.specs.Calls.{Becomes}
-use Rattle.hb_pool.specs.Frames.{Use}
-use Rattle.hb_core.specs.Showing.{RunningCore, ShowsFiles, ShowsMachine}
-use Rattle.std.proofs.lemmas.Bool.{false≢true}
 
 -- ---- where a disk tells its bytes
 

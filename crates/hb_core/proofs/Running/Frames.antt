@@ -1,34 +1,18 @@
 -- What the frames of a machine tell of the pages that a step needs: which stay, how few pins they have, and what a page that comes makes
 -- of that.
-use Rattle.std.proofs.Common.{◌≡◌, inl, inr, ℕ, ◌+◌, ◌<◌, ◌≤◌, true, false, List, [], cond, Option, Some, None, IsSome, IsTrue, refl, sym, ap, subst, ◌∙◌, arith}
+use Rattle.hb_core.proofs.Running.Names.{◌≡◌, inl, inr, ℕ, ◌+◌, ◌<◌, ◌≤◌, true, false, List, [], cond, Option, Some, None, IsSome, IsTrue, refl, sym, ap, subst, ◌∙◌, arith, nat_cmp, is_some, option_map_or, false≢true, has_value, Wanted, Mode, HeldModes, Use, frame_of, StaysHere, use_fetched, IsTied, StoreState, holders_moved, one_if, PinsMore, times, MustStay, MachineKeeps, Machine, modes, page_wanted, pins_of, RunningCore, MayStep, DiskModel}
 use Rattle.std.specs.FinSet as set
-use Rattle.std.specs.Ordering.{nat_cmp}
-use Rattle.std.specs.Option.{IsSomeAnd, is_some, option_map_or}
-use Rattle.std.proofs.lemmas.Bool.{false≢true}
+use Rattle.std.specs.Option.{IsSomeAnd}
 use Rattle.std.proofs.lemmas.List.Sums.{count_by-le-length}
-use Rattle.hb_lemmas.proofs.Options.{has_value}
-use Rattle.hb_activity.specs.declared.wanting.Wanted.{Wanted}
-use Rattle.hb_latch.specs.declared.modes.Mode.{Mode}
-use Rattle.hb_latch.specs.Tables.{HeldModes}
 use Rattle.hb_pool.proofs.Facts.Others.{came_in}
 use Rattle.hb_pool.proofs.Facts.Pooled.{dirty_stays, pinned_stays}
-use Rattle.hb_pool.specs.Frames.{IsStaying, Use, fresh}
-use Rattle.hb_pool.specs.Pools.{brought, frame_of}
-use Rattle.hb_store.specs.Calls.{StaysHere, use_fetched}
-use Rattle.hb_store.specs.Held.{IsTied}
-use Rattle.hb_store.specs.States.{StoreState, is_dirty}
-use Rattle.hb_core.proofs.Machines.HoldersMoved.{holders_moved}
-use Rattle.hb_core.proofs.Machines.PinCounts.{IsSingle, brought_pins, one_if}
-use Rattle.hb_core.proofs.Machines.PinsFollow.{PinsMore, times}
-use Rattle.hb_core.proofs.Facts.StillThere.{holder_may}
+use Rattle.hb_pool.specs.Frames.{IsStaying, fresh}
+use Rattle.hb_pool.specs.Pools.{brought}
+use Rattle.hb_store.specs.States.{is_dirty}
+use Rattle.hb_steps.proofs.Machines.PinCounts.{IsSingle, brought_pins}
+use Rattle.hb_steps.proofs.Facts.StillThere.{holder_may}
 use Rattle.hb_core.proofs.Running.Pins.{few_pins, times_first}
-use Rattle.hb_core.specs.Fetching.{MustStay}
-use Rattle.hb_core.specs.KeptMachine.{MachineKeeps}
-use Rattle.hb_core.specs.Machines.{Machine, modes}
-use Rattle.hb_core.specs.Using.{actors, holders, page_wanted, pins_of}
-use Rattle.hb_core.specs.Showing.{RunningCore}
-use Rattle.hb_core.specs.Working.{MayStep}
-use Rattle.hb_disk.specs.Model.{DiskModel}
+use Rattle.hb_steps.specs.Using.{actors, holders}
 
 -- ---- which pages stay
 

@@ -1,42 +1,13 @@
 -- The pins of an actor can go over from the wanted page and those of its latches to those of its latches once a row is done.
-use Rattle.hb_core.proofs.Memory.BroughtPages.{latches_come}
-use Rattle.std.proofs.Common.{◌≡◌, inl, inr, ℕ, ◌+◌, ◌<◌, ◌≤◌, ◌==◌, Bool, true, false, cond, List, [], ◌∷◌, ◌++◌, length, Option, Some, None, IsSome, refl, sym, ap, ◌∙◌, subst, arith}
-use Rattle.std.specs.Option.{is_some}
-use Rattle.std.proofs.lemmas.Bool.{cases_Bool}
-use Rattle.std.proofs.lemmas.List.{length-map}
-use Rattle.hb_disk.specs.Model.{DiskModel}
-use Rattle.hb_frag.specs.declared.pages.Page.TheVariants.{Live}
-use Rattle.hb_lemmas.proofs.Options.{has_value}
+use Rattle.hb_core.proofs.Running.Names.{◌≡◌, inl, inr, ℕ, ◌+◌, ◌<◌, ◌≤◌, ◌==◌, Bool, true, false, cond, List, [], ◌∷◌, ◌++◌, length, Option, Some, None, IsSome, refl, sym, ap, ◌∙◌, subst, arith, is_some, cases_Bool, length-map, DiskModel, Live, has_value, Activity, Latch, Deed, Mode, Use, frame_of, IsActor, IsTied, StoreState, in_memory, every_row_backed, holders_moved, latches_differ, one_if, came_stays, times, AnyPage, wanted_by, Brings, MachineKeeps, Machine, with_disk, modes, MayDo, latches_held, mode_among, CanMovePins, CanUnpin, Row, RunningCore, CameFor, page_wanted, pages_of, pins_of, use_done, HasCome, HasPages, with_memory}
+use Rattle.hb_steps.proofs.Memory.BroughtPages.{latches_come}
 use Rattle.hb_activity.proofs.Facts.HeldLatches.{two_at_most}
-use Rattle.hb_activity.specs.declared.activities.Activity.{Activity}
-use Rattle.hb_activity.specs.declared.holding.Latch.{Latch}
-use Rattle.hb_activity.specs.Deeds.{Deed}
-use Rattle.hb_latch.specs.declared.modes.Mode.{Mode}
-use Rattle.hb_pool.specs.Frames.{Use}
-use Rattle.hb_pool.specs.Pools.{frame_of}
-use Rattle.hb_space.specs.Actors.{IsActor}
-use Rattle.hb_store.specs.Held.{IsTied}
-use Rattle.hb_store.specs.States.{StoreState, in_memory}
-use Rattle.hb_core.proofs.Latches.MergerBacked.{every_row_backed}
-use Rattle.hb_core.proofs.Machines.HoldersMoved.{holders_moved}
-use Rattle.hb_core.proofs.Machines.LatchesApart.{known_apart, latches_differ}
-use Rattle.hb_core.proofs.Machines.PinCounts.{one_if}
-use Rattle.hb_core.proofs.Machines.PinsFollow.{came_stays, stay_done, times, times_joined}
+use Rattle.hb_steps.proofs.Machines.LatchesApart.{known_apart}
+use Rattle.hb_steps.proofs.Machines.PinsFollow.{stay_done, times_joined}
 use Rattle.hb_core.proofs.Running.Brought.{brings_wider}
 use Rattle.hb_core.proofs.Running.Frames.{few_hold}
 use Rattle.hb_core.proofs.Running.Pins.{can_hold, can_unpin}
 use Rattle.hb_core.proofs.Running.ReadsStay.{pinned_so}
-use Rattle.hb_core.specs.AllowedLaws.{AnyPage}
-use Rattle.hb_core.specs.Asking.{wanted_by}
-use Rattle.hb_core.specs.Fetching.{Brings}
-use Rattle.hb_core.specs.KeptMachine.{MachineKeeps}
-use Rattle.hb_core.specs.Machines.{Machine, with_disk, modes}
-use Rattle.hb_core.specs.Performing.{MayDo, latches_held, mode_among}
-use Rattle.hb_core.specs.Pinning.{CanMovePins, CanUnpin}
-use Rattle.hb_core.specs.Rows.{Row}
-use Rattle.hb_core.specs.Showing.{RunningCore}
-use Rattle.hb_core.specs.Using.{CameFor, page_wanted, pages_of, pins_of, use_done}
-use Rattle.hb_core.specs.Working.{HasCome, HasPages, with_memory}
 use Rattle.hb_core.proofs.Running.StandsElsewhere.{stands_as}
 use Rattle.hb_activity.specs.declared.activities.Activity.TheVariants as at
 

@@ -1,47 +1,14 @@
 -- An idle session of a core takes a line, or the poster takes a job, as a step of the machine that it shows.
-use Rattle.std.proofs.Common.{◌≡◌, ◌≢◌, inl, inr, ℕ, ◌≤◌, ◌+◌, ◌-◌, ◌==◌, Bool, cond, List, [], length, take, drop, slice_get, slice_set, All, Option, Some, None, refl, sym, ap, ◌∙◌, subst, arith, append-nil, ◌++◌, ◌∷◌}
-use Rattle.hb_core.specs.AllowedLaws.{AnyPage}
-use Rattle.hb_core.proofs.Memory.BroughtPages.{brings_none}
-use Rattle.hb_core.proofs.Latches.SameLatches.{table_follows}
+use Rattle.hb_core.proofs.Running.Names.{◌≡◌, ◌≢◌, inl, inr, ℕ, ◌≤◌, ◌+◌, ◌-◌, ◌==◌, Bool, cond, List, [], length, take, drop, slice_set, Option, Some, None, refl, sym, ap, ◌∙◌, subst, arith, append-nil, ◌++◌, ◌∷◌, AnyPage, brings_none, table_follows, cases_Bool, eq-eqb, eqb-false, eqb-true, length-set, same_Some, slice_get_within, Activity, Job, Merge, Post, Sessions, class_of, lock_of_command, Deed, answers_now, takes_job, DiskModel, IsActor, get-set_same, get-set_other, at_other, if_same, at_itself, Op, boxes_ahead, next_line, IsMergingOf, IsPostingOf, AreRising, Answered, Line, Use, StoreKeeps, StoreState, Outcome, StaysSo, class_for, Machine, with_activity, with_disk, with_uses, DoesDeed, KeepsFilesBy, with_standing, MayDo, Performs, latches_held, HasTurn, RunningCore, ShowsMachine, number_in_hand, StepsAs, IsNextLine, RefusesLine, TakesLine, TakesNextLine, TakesNextMerging, TakesNextPosting, pages_of, MayStep, with_memory}
+use Rattle.std.proofs.Common.{slice_get, All}
 use Rattle.std.specs.Prelude.{MatchOption}
-use Rattle.std.proofs.lemmas.Bool.{cases_Bool, eq-eqb, eqb-false, eqb-true}
-use Rattle.std.proofs.lemmas.List.{length-set}
-use Rattle.std.proofs.lemmas.Option.{same_Some, slice_get_within}
-use Rattle.hb_activity.specs.declared.activities.Activity.{Activity}
 use Rattle.hb_activity.specs.declared.activities.Activity.TheVariants as at
-use Rattle.hb_activity.specs.declared.jobs.Job.{Job}
-use Rattle.hb_activity.specs.declared.jobs.JobKind.TheVariants.{Merge, Post}
-use Rattle.hb_activity.specs.Classes.{Sessions, class_of}
-use Rattle.hb_activity.specs.BoxLocks.{lock_of_command}
-use Rattle.hb_activity.specs.Deeds.{Deed, answers_now, takes_job}
-use Rattle.hb_disk.specs.Model.{DiskModel}
-use Rattle.hb_space.specs.Actors.{IsActor}
-use Rattle.hb_space.proofs.Facts.Lists.{get-set_same, get-set_other}
-use Rattle.hb_lemmas.proofs.Booleans.{at_other, if_same, at_itself}
-use Rattle.hb_ops.specs.declared.operations.Op.{Op}
-use Rattle.hb_point.specs.SessionRows.{boxes_ahead, next_line, taking}
-use Rattle.hb_consol.specs.ConsolidatorRows.{IsMergingOf}
-use Rattle.hb_poster.specs.PosterRows.{IsPostingOf}
-use Rattle.hb_set.specs.Order.{AreRising}
+use Rattle.hb_point.specs.SessionRows.{taking}
 use Rattle.hb_set.specs.declared.commands.Reply.TheVariants as replies
-use Rattle.hb_set.specs.declared.scripts.Answered.{Answered}
-use Rattle.hb_set.specs.declared.scripts.Line.{Line}
-use Rattle.hb_pool.specs.Frames.{Use}
-use Rattle.hb_store.specs.Keeps.{StoreKeeps}
-use Rattle.hb_store.specs.States.{StoreState}
-use Rattle.hb_core.specs.declared.outcomes.Outcome.{Outcome}
-use Rattle.hb_core.specs.declared.outcomes.Outcome.TheVariants as outcomes
-use Rattle.hb_core.specs.Forcing.{StaysSo}
-use Rattle.hb_core.specs.KeptFits.{class_for}
-use Rattle.hb_core.specs.Machines.{Machine, with_activity, with_disk, with_uses}
-use Rattle.hb_core.specs.Moving.{DoesDeed, KeepsFilesBy, with_standing}
-use Rattle.hb_core.specs.Performing.{MayDo, Performs, PerformsAsItIs, latches_held}
-use Rattle.hb_core.specs.Showing.{HasTurn, RunningCore, ShowsMachine, number_in_hand}
-use Rattle.hb_core.specs.Steps.{BeginsLine, StepsAs, TakesJobToMerge, TakesPosting}
-use Rattle.hb_core.specs.Taking.{IsNextLine, RefusesLine, TakesLine, TakesNextLine, TakesNextMerging, TakesNextPosting}
-use Rattle.hb_core.specs.Using.{pages_of}
-use Rattle.hb_core.specs.Working.{MayStep, with_memory}
-use Rattle.hb_core.proofs.Facts.NextLines.{next_is}
+use Rattle.hb_steps.specs.declared.outcomes.Outcome.TheVariants as outcomes
+use Rattle.hb_steps.specs.Performing.{PerformsAsItIs}
+use Rattle.hb_steps.specs.Steps.{BeginsLine, TakesJobToMerge, TakesPosting}
+use Rattle.hb_steps.proofs.Facts.NextLines.{next_is}
 use Rattle.hb_core.proofs.Running.AgainstPlaces.{box_in_the_way, has_box_free}
 use Rattle.hb_core.proofs.Running.DeedShows.{deed_shows, nothing_moves}
 use Rattle.hb_core.proofs.Running.Frames.{shown_stays}

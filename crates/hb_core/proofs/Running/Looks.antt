@@ -1,37 +1,14 @@
 -- The page into which an actor's next step looks is in memory, as it was before other pages came, and can be looked into.
-use Rattle.std.proofs.Common.{◌≡◌, inl, inr, ℕ, List, Option, Some, None, IfSome, IsSome, refl, sym, ap, ◌∙◌, subst}
-use Rattle.hb_core.proofs.Memory.BroughtPages.{held_come}
-use Rattle.hb_core.proofs.Latches.SameLatches.{live_held}
-use Rattle.std.specs.Option.{option_and_then}
-use Rattle.std.proofs.lemmas.Bool.{false≢true}
-use Rattle.std.proofs.lemmas.Option.{same_Some}
-use Rattle.hb_frag.specs.declared.leaves.Leaf.TheVariants.{Child}
-use Rattle.hb_frag.specs.declared.pages.LivePage.{LivePage}
-use Rattle.hb_frag.specs.declared.pages.Page.TheVariants.{Live}
-use Rattle.hb_latch.specs.declared.modes.Mode.{Mode}
-use Rattle.hb_space.specs.Actors.{IsActor}
-use Rattle.hb_layout.specs.declared.meta.Meta.{Meta}
+use Rattle.hb_core.proofs.Running.Names.{◌≡◌, inl, inr, ℕ, List, Option, Some, None, IfSome, IsSome, refl, sym, ap, ◌∙◌, subst, option_and_then, false≢true, same_Some, Child, LivePage, Live, Mode, IsActor, Meta, live_so, if_live, Holds, Job, Activity, LeadsBelow, walk_held, walk_point, HasLeafAt, wanted_of, IsGoodPage, StoreState, in_memory, looked_live, wanted_by, Brings, MachineKeeps, AtParent, NamesKnown, PairHeld, merging_at, MayLook, wanted_in, Machine, live_here, latches_held, mode_among}
+use Rattle.hb_steps.proofs.Memory.BroughtPages.{held_come}
+use Rattle.hb_steps.proofs.Latches.SameLatches.{live_held}
 use Rattle.hb_ops.proofs.Facts.Tips.{first_held}
-use Rattle.hb_ops.proofs.Facts.PageNumberLaws.{live_so}
-use Rattle.hb_ops.specs.Files.{if_live}
-use Rattle.hb_space.specs.Boxes.{Holds}
-use Rattle.hb_activity.specs.declared.jobs.Job.{Job}
-use Rattle.hb_activity.specs.declared.activities.Activity.{Activity}
 use Rattle.hb_activity.specs.declared.activities.Activity.TheVariants as at
-use Rattle.hb_activity.specs.Passing.{LeadsBelow}
-use Rattle.hb_activity.specs.Walks.{walk_held, walk_point}
-use Rattle.hb_activity.specs.Wanting.{CanLook, HasLeafAt, LooksIntoPage, looked_at, wanted_of}
-use Rattle.hb_store.specs.States.{IsGoodPage, StoreState, in_memory}
-use Rattle.hb_core.proofs.Latches.SameLatches.{walk_latched}
-use Rattle.hb_core.proofs.Walks.MergesKept.{named_again, place_latched, known_at, place_stays}
-use Rattle.hb_core.proofs.Walks.WalksKept.{IsAtParent, parent_latched}
-use Rattle.hb_core.specs.Asking.{looked_live, looked_page, wanted_by}
-use Rattle.hb_core.specs.Fetching.{Brings}
-use Rattle.hb_core.specs.KeptMachine.{MachineKeeps}
-use Rattle.hb_core.specs.KeptMerges.{AtParent, NamesKnown, PairHeld, merging_at}
-use Rattle.hb_core.specs.Looking.{MayLook, wanted_in}
-use Rattle.hb_core.specs.Machines.{Machine, live_here}
-use Rattle.hb_core.specs.Performing.{latches_held, mode_among}
+use Rattle.hb_activity.specs.Wanting.{CanLook, LooksIntoPage, looked_at}
+use Rattle.hb_steps.proofs.Latches.SameLatches.{walk_latched}
+use Rattle.hb_steps.proofs.Walks.MergesKept.{named_again, place_latched, known_at, place_stays}
+use Rattle.hb_steps.proofs.Walks.WalksKept.{IsAtParent, parent_latched}
+use Rattle.hb_steps.specs.Asking.{looked_page}
 
 -- a page in use that the actor holds, with the point at whose leaf it looks in its box
 pub record LooksInto (st : StoreState) (activity : Activity) (id : ℕ) : Type 0 where

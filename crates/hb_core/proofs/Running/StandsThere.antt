@@ -1,28 +1,10 @@
 -- Where a row's deed is done, its actor may stand as the deed says: nobody is in the way of its latches, and they are on different pages.
-use Rattle.std.proofs.Common.{◌≡◌, ◌≢◌, ◌⊎◌, ℕ, [], ◌∷◌, length, Option, IsSome, IsTrue, refl, sym, ap, ◌∙◌, subst}
-use Rattle.std.specs.Option.{option_and_then}
-use Rattle.hb_latch.specs.declared.modes.Mode.{Mode}
+use Rattle.hb_core.proofs.Running.Names.{◌≡◌, ◌≢◌, ◌⊎◌, ℕ, [], ◌∷◌, length, Option, IsSome, IsTrue, refl, sym, ap, ◌∙◌, subst, option_and_then, Mode, IsActor, if_live, Deed, walk_held, StoreState, has_value, if_value, some_value, every_row_backed, AnyPage, wanted_by, Brings, MachineKeeps, Machine, live_here, with_disk, modes, MayStand, MayDo, Row, MayWork, latches_differ}
 use Rattle.hb_latch.specs.Modes.{goes_beside}
-use Rattle.hb_space.specs.Actors.{IsActor}
-use Rattle.hb_ops.specs.Files.{if_live}
-use Rattle.hb_activity.specs.Deeds.{Deed}
-use Rattle.hb_activity.specs.Walks.{walk_held}
-use Rattle.hb_store.specs.States.{StoreState}
-use Rattle.hb_lemmas.proofs.Options.{has_value, if_value, some_value}
-use Rattle.hb_core.proofs.Latches.Beside.{beside_from}
-use Rattle.hb_core.proofs.Latches.MergerBacked.{every_row_backed}
-use Rattle.hb_core.proofs.Table.NextPlaces.{place_after}
-use Rattle.hb_core.specs.AllowedLaws.{AnyPage}
-use Rattle.hb_core.specs.Asking.{wanted_by}
-use Rattle.hb_core.specs.Fetching.{Brings}
-use Rattle.hb_core.specs.KeptMachine.{MachineKeeps}
-use Rattle.hb_core.specs.Machines.{Machine, live_here, with_disk, modes}
-use Rattle.hb_core.specs.Moving.{MayStand}
-use Rattle.hb_core.specs.Performing.{MayDo}
-use Rattle.hb_core.specs.Rows.{Row}
-use Rattle.hb_core.specs.Going.{MayWork}
-use Rattle.hb_core.proofs.Machines.LatchesApart.{latches_differ, puts_apart}
-use Rattle.hb_core.proofs.Walks.WalksKept.{placed_in_space}
+use Rattle.hb_steps.proofs.Latches.Beside.{beside_from}
+use Rattle.hb_steps.proofs.Table.NextPlaces.{place_after}
+use Rattle.hb_steps.proofs.Machines.LatchesApart.{puts_apart}
+use Rattle.hb_steps.proofs.Walks.WalksKept.{placed_in_space}
 
 module _ (m : Machine) (actor : ℕ) (fetched st : StoreState) (deed : Deed) (latches : IsActor actor) (work : MayWork m actor) (brings : Brings m AnyPage fetched) (row : Row (m.activity actor) (wanted_by m actor) (with_disk fetched m.files m.clock m) deed) where
   keeps : MachineKeeps m

@@ -1,39 +1,13 @@
 -- A core that works takes a step of the machine that it shows.
-use Rattle.std.proofs.Common.{◌≡◌, ◌⊎◌, inl, inr, ℕ, ◌-◌, ◌↔◌, arith, Bool, true, false, List, slice_get, slice_set, Option, None, IfSome, IsTrue, refl, sym, ap, ◌∙◌, subst}
+use Rattle.hb_core.proofs.Running.Names.{◌≡◌, ◌⊎◌, inl, inr, ℕ, ◌-◌, ◌↔◌, arith, Bool, true, false, List, slice_set, Option, None, IfSome, IsTrue, refl, sym, ap, ◌∙◌, subst, Activity, DropWhy, Wanted, may_commit, Hand, Empty, HasJob, HasLine, class_of, hand_of, idle_of, Deed, DiskModel, mode_at, HeldModes, IsActor, StopWhy, Use, places, HasPlaces, IsReady, StaysHere, StoreState, in_memory, MustStay, latches_held, CameFor, pages_of, came_stays, GivesUp, Stops, Outcome, looked_live, wanted_by, gives_up, class_for, MayLook, wanted_in, Machine, stopped_for, DoesDeed, StandsAs, number_of, with_stop, RunningCore, ShowsMachine, number_in_hand, IsUnready, Works, IsWorking, MayWork, Halts, MayStep, with_memory}
+use Rattle.std.proofs.Common.{slice_get}
 use Rattle.std.specs.Option.{IsSomeAnd}
-use Rattle.hb_activity.specs.declared.activities.Activity.{Activity}
-use Rattle.hb_activity.specs.declared.dropping.DropWhy.{DropWhy}
-use Rattle.hb_activity.specs.declared.wanting.Wanted.{Wanted}
-use Rattle.hb_activity.specs.Wanting.{may_commit}
-use Rattle.hb_activity.specs.Classes.{Hand, Empty, HasJob, HasLine, class_of, hand_of, idle_of}
-use Rattle.hb_activity.specs.Deeds.{Deed}
-use Rattle.hb_disk.specs.Model.{DiskModel}
-use Rattle.hb_latch.specs.Tables.{IsGrantable, IsLeastInTheWay, mode_at, HeldModes}
-use Rattle.hb_space.specs.Actors.{IsActor}
-use Rattle.hb_store.specs.declared.stops.StopWhy.{StopWhy}
+use Rattle.hb_latch.specs.Tables.{IsGrantable, IsLeastInTheWay}
 use Rattle.hb_store.specs.declared.stops.StopWhy.TheVariants.{Damaged, WriteFault}
-use Rattle.hb_pool.specs.Frames.{Use}
-use Rattle.hb_pool.specs.Pools.{places}
-use Rattle.hb_store.specs.Calls.{HasPlaces, IsReady, StaysHere}
-use Rattle.hb_store.specs.States.{StoreState, in_memory}
-use Rattle.hb_core.specs.Fetching.{MustStay}
-use Rattle.hb_core.specs.Performing.{latches_held}
-use Rattle.hb_core.specs.Using.{CameFor, pages_of}
-use Rattle.hb_core.proofs.Machines.PinsFollow.{came_stays}
 use Rattle.hb_core.proofs.Running.Frames.{must_here}
-use Rattle.hb_core.specs.declared.halts.Halt.TheVariants.{GivesUp, Stops}
-use Rattle.hb_core.specs.declared.outcomes.Outcome.{Outcome}
-use Rattle.hb_core.specs.declared.outcomes.Outcome.TheVariants as outcomes
-use Rattle.hb_core.specs.Asking.{HasWayFree, looked_live, wanted_by}
-use Rattle.hb_core.specs.GivingUp.{gives_up, gives_up_hand}
-use Rattle.hb_core.specs.KeptFits.{class_for}
-use Rattle.hb_core.specs.Looking.{MayLook, wanted_in}
-use Rattle.hb_core.specs.Machines.{Machine, stopped_for}
-use Rattle.hb_core.specs.Moving.{DoesDeed, StandsAs, number_of, with_stop}
-use Rattle.hb_core.specs.Showing.{RunningCore, ShowsMachine, number_in_hand}
-use Rattle.hb_core.specs.Steps.{IsUnready, Works}
-use Rattle.hb_core.specs.Going.{IsWorking, MayWork}
-use Rattle.hb_core.specs.Working.{Halts, MayStep, with_memory}
+use Rattle.hb_steps.specs.declared.outcomes.Outcome.TheVariants as outcomes
+use Rattle.hb_steps.specs.Asking.{HasWayFree}
+use Rattle.hb_steps.specs.GivingUp.{gives_up_hand}
 use Rattle.hb_core.proofs.Running.DeedShows.{deed_shows, nothing_moves}
 use Rattle.hb_core.proofs.Running.ForcedShows.{shown_stopped}
 use Rattle.hb_core.proofs.Running.LineTaken.{keeps_none}

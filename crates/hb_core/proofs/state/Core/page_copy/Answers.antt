@@ -9,7 +9,7 @@ use Rattle.hb_core.specs.declared.copies.CopyStop.TheVariants as copies
 use Rattle.hb_core.proofs.Facts.BetweenCalls.{copied_or_not, crowded_said, look_counts, memory_alone, no_crowd, no_fault, not_copied, not_copied_why, ok_never, reads_said, same_err, why_memory}
 use Rattle.hb_core.specs.Between.{CopiesPage}
 use Rattle.hb_core.specs.CoreSeen.{core_disk, core_seen}
-use Rattle.hb_core.specs.Machines.{Machine}
+use Rattle.hb_steps.specs.Machines.{Machine}
 use Rattle.hb_core.specs.Working.{MayStep}
 use Rattle.hb_core.proofs.state.Core.page_copy.Goals as goal
 use Rattle.hb_lemmas.proofs.Options.{has_value, none_unless}
