@@ -268,7 +268,7 @@ IsClearIn s actor = NoneHolds s actor s.at_work
 
 granted : (s : Scene) (actor : ℕ) (o : Option Wanted) → IsClearIn s actor → IfSome o (λ w. IsGrantable (modes (machine_of s)) actor w.page w.mode)
 granted s actor None clear = tt
-granted s actor (Some w) clear other another =
+granted s actor (Some w) clear = λ other another.
     subst (λ (held : List Latch). IfSome (mode_among w.page held) (λ mode. IsTrue (goes_beside w.mode mode))) (sym (none_held s actor s.at_work clear other another)) tt
 
 pub way_free : (s : Scene) (actor : ℕ) → IsClearIn s actor → HasWayFree (machine_of s) actor

@@ -4,7 +4,7 @@ use Rattle.hb_steps.proofs.Memory.Names.{◌≡◌, ◌≢◌, ◌⊎◌, inl, i
 use Rattle.hb_steps.specs.Machines.{live_here}
 use Rattle.hb_steps.proofs.Latches.SameLatches.{live_held, same_modes, still_latched}
 use Rattle.hb_ops.proofs.Facts.PageNumberLaws.{live_so}
-use Rattle.hb_lemmas.proofs.Options.{not_none}
+use Rattle.hb_lemmas.proofs.Options.{not_none, some_value}
 
 -- a page of this number can't have come again as another one
 abbrev pub IsSure : Machine → ℕ → Type 0
