@@ -1,11 +1,12 @@
 -- A step is built for which pages come into memory first.
 use Rattle.hb_steps.proofs.Chains.Names.{◌≡◌, ◌⊎◌, inl, inr, ℕ, ◌≤◌, ◌++◌, List, Option, Some, None, IfSome, IsSome, IsTrue, refl, sym, ap, ◌∙◌, subst, AllByRecursion, is_some, LivePage, Page, Op, Job, Wanted, Activity, Deed, takes_number, HasAskedBox, AskedBox, asked_box, wanted_by, IsWantedPage, ChangesQueue, outcome_of, IsAtHand, Row, Scene, machine_of, standing, store_of, IsUnready, Works, page_wanted, last_of, Use, IsTied, in_memory}
 use Rattle.std.proofs.Common.{map}
-use Rattle.hb_steps.proofs.Chains.BuiltSteps.{IsClearIn, IsUsedSo, MayBeIn, after, at_hand, came_in, came_is, live_in, memory_is, performed_using, pins_are, pins_in, wanted_in, wanted_is, way_free}
+use Rattle.hb_steps.proofs.Chains.BuiltSteps.{IsClearIn, IsUsedSo, MayBeIn, after, at_hand, came_in, came_is, live_in, memory_is, none_held, performed_using, pins_are, pins_in, wanted_in, wanted_is, way_free}
 use Rattle.hb_steps.proofs.Chains.OrderOfUse.{is_tied, tied}
 use Rattle.hb_steps.proofs.Chains.WrittenTables.{entry_append, entry_at, entry_has, or_else, or_stays}
-use Rattle.hb_steps.specs.Fetching.{Brings, IsFreeHead}
-use Rattle.hb_steps.specs.Machines.{Machine, with_disk}
+use Rattle.hb_steps.specs.Fetching.{Brings, IsFreeHead, MustStay}
+use Rattle.hb_steps.specs.Machines.{Machine, mode_among, with_disk}
+use Rattle.std.proofs.lemmas.Option.{none-some}
 use Rattle.hb_ops.specs.Files.{page_of}
 use Rattle.hb_store.specs.States.{IsGoodPage}
 use Rattle.std.proofs.lemmas.Bool.{false≢true}
@@ -76,9 +77,14 @@ at_hand_met more s activity wanted page asked live level asks box =
 abbrev pub used_first : List (ℕ × Page) → Scene → ℕ → List ℕ
 used_first more s actor = page_wanted (wanted_in s actor) ++ map (λ (one : ℕ × Page). one.0) more
 
+-- what must stay must do so once they came: nobody holds a page
+must_still : (more : List (ℕ × Page)) (s : Scene) → IsClearIn s → (id : ℕ) → MustStay (machine_of s) id → MustStay (machine_of (bringing more s)) id
+must_still more s clear id (inl (actor, mode, holds)) = absurd (none-some mode (sym (ap (mode_among id) (none_held s s.at_work clear actor)) ∙ holds))
+must_still more s clear id (inr dirty) = inr dirty
+
 -- its row is done once they came
 pub works_bringing : (more : List (ℕ × Page)) (s : Scene) (pages : List (ℕ × Page)) (actor : ℕ) (deed : Deed) (jobs : List Job) → AllByRecursion (MayCome s (MayNeedIn s actor deed.op)) more
-    → IsClearIn s actor → ¬ (IsUnready (machine_of s) actor)
+    → IsClearIn s → ¬ (IsUnready (machine_of s) actor)
     → Row (standing s.at_work actor) (wanted_in s actor) (met more s) deed → ChangesQueue deed s.jobs jobs → MayBeIn (bringing more s) deed.op
     → IsUsedSo (used_first more s actor) (came_in s actor deed.op) (pins_in s actor) pages actor deed jobs (bringing more s) → IsTrue (is_tied (bringing more s) (came_in s actor deed.op))
     → Works (machine_of s) actor (outcome_of deed.says) (machine_of (after pages actor deed jobs (bringing more s)))
@@ -108,7 +114,7 @@ works_bringing more s pages actor deed jobs each clear ready row queue may used 
           pins = done.pins;
           uses = done.uses;
           tied = done.tied;
-          stays = λ id must off. done.stays id must off;
+          stays = λ id must off. done.stays id (must_still more s clear id must) off;
         };
         came = all.1 ∙ came_is s actor deed.op;
         pins = all.2 ∙ pins_are s actor;

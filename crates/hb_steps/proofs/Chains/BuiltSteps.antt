@@ -1,5 +1,5 @@
 -- A step is built: the machine after a deed, and that the deed is done so.
-use Rattle.hb_steps.proofs.Chains.Names.{◌≡◌, ◌≢◌, ◌⊎◌, inl, inr, ℕ, ◌==◌, nat_le, ◌≤◌, ◌++◌, true, false, cond, List, [], ◌∷◌, length, Option, Some, None, IfSome, IsTrue, refl, sym, ap, ◌∙◌, subst, arith, fun_ext, eqb-true, leb-true, ◌||◌, LivePage, Page, Op, Job, Wanted, Activity, SessionIdle, PosterIdle, ConsolidatorIdle, Flusher, Deed, takes_number, HasAskedBox, AskedBox, asked_box, wanted_by, Files, Performs, files_after, ChangesQueue, outcome_of, PerformsAsItIs, IsAtHand, Row, Scene, at_rest, machine_of, standing, store_of, uses_in, IsUnready, Works, is_among, set_pages, has_page, in_memory, nat_cmp, page_wanted, Use, IsTied, brings_none}
+use Rattle.hb_steps.proofs.Chains.Names.{◌≡◌, inl, inr, ℕ, ◌==◌, nat_le, ◌≤◌, ◌++◌, true, false, cond, List, [], ◌∷◌, length, Option, Some, None, IfSome, IsTrue, refl, sym, ap, ◌∙◌, subst, arith, fun_ext, leb-true, ◌||◌, LivePage, Page, Op, Job, Wanted, Activity, SessionIdle, PosterIdle, ConsolidatorIdle, Flusher, Deed, takes_number, HasAskedBox, AskedBox, asked_box, wanted_by, Files, Performs, files_after, ChangesQueue, outcome_of, PerformsAsItIs, IsAtHand, Scene, at_rest, machine_of, standing, store_of, uses_in, IsUnready, is_among, set_pages, has_page, in_memory, nat_cmp, page_wanted, Use}
 use Rattle.std.proofs.Common.{get_or, map}
 use Rattle.std.specs.Prelude.{◌+◌, ◌*◌, ◌%◌}
 use Rattle.std.specs.FinMap as finite
@@ -242,10 +242,10 @@ wanted_in s actor = wanted_of (standing s.at_work actor) s.meta (option_and_then
 pub wanted_is : (s : Scene) (actor : ℕ) → wanted_by (machine_of s) actor ≡ wanted_in s actor
 wanted_is s actor = ap (wanted_of (standing s.at_work actor) s.meta) (looks_is s (looked_page (standing s.at_work actor)))
 
--- Nobody else at work holds a page, and who rests holds none; so nobody is in the way.
-abbrev pub NoneHolds : Scene → ℕ → List (ℕ × Activity) → Type 0
-NoneHolds s actor [] = Unit {0}
-NoneHolds s actor (one ∷ rest) = ((one.0 ≡ actor) ⊎ (latches_held (store_of s) one.1 ≡ [])) × NoneHolds s actor rest
+-- Nobody at work holds a page, and who rests holds none; so nobody is in the way.
+abbrev pub NoneHolds : Scene → List (ℕ × Activity) → Type 0
+NoneHolds s [] = Unit {0}
+NoneHolds s (one ∷ rest) = (latches_held (store_of s) one.1 ≡ []) × NoneHolds s rest
 
 rests_free : (s : Scene) (actor : ℕ) → latches_held (store_of s) (at_rest actor) ≡ []
 rests_free s actor = elim (nat_le actor 16) as (λ b. latches_held (store_of s) (cond b SessionIdle (cond (actor == 17) PosterIdle (cond (actor == 18) ConsolidatorIdle Flusher))) ≡ []) [
@@ -256,22 +256,19 @@ rests_free s actor = elim (nat_le actor 16) as (λ b. latches_held (store_of s) 
   ]
 ]
 
-none_held : (s : Scene) (actor : ℕ) (all : List (ℕ × Activity)) → NoneHolds s actor all → (other : ℕ) → other ≢ actor → latches_held (store_of s) (standing all other) ≡ []
-none_held s actor [] none other another = rests_free s other
-none_held s actor (one ∷ rest) none other another = elim (other == one.0) as (λ b. (other == one.0) ≡ b → latches_held (store_of s) (cond b one.1 (standing rest other)) ≡ []) [
-  | true ↦ λ here. elim none.0 [ inl same ↦ absurd (another (eqb-true other one.0 here ∙ same)) | inr free ↦ free ]
-  | false ↦ λ off. none_held s actor rest none.1 other another
-] refl
+pub none_held : (s : Scene) (all : List (ℕ × Activity)) → NoneHolds s all → (actor : ℕ) → latches_held (store_of s) (standing all actor) ≡ []
+none_held s [] none actor = rests_free s actor
+none_held s (one ∷ rest) none actor = elim (actor == one.0) as (λ b. latches_held (store_of s) (cond b one.1 (standing rest actor)) ≡ []) [ true ↦ none.0 | false ↦ none_held s rest none.1 actor ]
 
-abbrev pub IsClearIn : Scene → ℕ → Type 0
-IsClearIn s actor = NoneHolds s actor s.at_work
+abbrev pub IsClearIn : Scene → Type 0
+IsClearIn s = NoneHolds s s.at_work
 
-granted : (s : Scene) (actor : ℕ) (o : Option Wanted) → IsClearIn s actor → IfSome o (λ w. IsGrantable (modes (machine_of s)) actor w.page w.mode)
+granted : (s : Scene) (actor : ℕ) (o : Option Wanted) → IsClearIn s → IfSome o (λ w. IsGrantable (modes (machine_of s)) actor w.page w.mode)
 granted s actor None clear = tt
 granted s actor (Some w) clear = λ other another.
-    subst (λ (held : List Latch). IfSome (mode_among w.page held) (λ mode. IsTrue (goes_beside w.mode mode))) (sym (none_held s actor s.at_work clear other another)) tt
+    subst (λ (held : List Latch). IfSome (mode_among w.page held) (λ mode. IsTrue (goes_beside w.mode mode))) (sym (none_held s s.at_work clear other)) tt
 
-pub way_free : (s : Scene) (actor : ℕ) → IsClearIn s actor → HasWayFree (machine_of s) actor
+pub way_free : (s : Scene) (actor : ℕ) → IsClearIn s → HasWayFree (machine_of s) actor
 way_free s actor clear = granted s actor (wanted_by (machine_of s) actor) clear
 
 -- what came and is pinned then
@@ -286,31 +283,6 @@ came_is s actor op = ap (λ (o : Option Wanted). use_number (takes_number op) s.
 
 pub pins_are : (s : Scene) (actor : ℕ) → pins_in s actor ≡ page_wanted (wanted_by (machine_of s) actor) ++ pages_of (latches_held (store_of s) (standing s.at_work actor))
 pins_are s actor = λ i. page_wanted (sym (wanted_is s actor) i) ++ pages_held_are s actor i
-
--- its row is done
-abbrev pub IsUsedToWork : List (ℕ × Page) → ℕ → Deed → List Job → Scene → Type 0
-IsUsedToWork pages actor deed jobs s = IsUsedSo (page_wanted (wanted_in s actor)) (came_in s actor deed.op) (pins_in s actor) pages actor deed jobs s
-
-pub works : (s : Scene) (pages : List (ℕ × Page)) (actor : ℕ) (deed : Deed) (jobs : List Job) → IsClearIn s actor → ¬ (IsUnready (machine_of s) actor)
-    → Row (standing s.at_work actor) (wanted_in s actor) (machine_of s) deed → ChangesQueue deed s.jobs jobs → MayBeIn s deed.op
-    → IsUsedToWork pages actor deed jobs s → IsTrue (is_tied s (came_in s actor deed.op))
-    → Works (machine_of s) actor (outcome_of deed.says) (machine_of (after pages actor deed jobs s))
-works s pages actor deed jobs clear ready row queue may used came =
-    let done = performed_using (page_wanted (wanted_in s actor)) (came_in s actor deed.op) (pins_in s actor) pages s actor deed jobs used queue may in
-    inr (inr (
-      way_free s actor clear,
-      ready,
-      inl (record {
-        fetched = store_of s;
-        deed = deed;
-        brings = brings_none _ _ _ refl;
-        row = subst (λ (o : Option Wanted). Row (standing s.at_work actor) o (machine_of s) deed) (sym (wanted_is s actor)) row;
-        performs = done.0;
-        came = done.1 ∙ came_is s actor deed.op;
-        pins = done.2 ∙ pins_are s actor;
-        tied = subst (λ (uses : List Use). IsTied (store_of s) uses) (sym done.1) (tied s (came_in s actor deed.op) came);
-      }),
-    ))
 
 -- the page of a row
 pub at_hand : (s : Scene) (activity : Activity) (wanted : Wanted) (page : LivePage) (asked : Option AskedBox) → live_in s wanted.page ≡ Some page → page.level ≡ wanted.level

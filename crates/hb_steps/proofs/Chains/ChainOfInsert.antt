@@ -94,7 +94,7 @@ one_insert = (
   takes_line before_insert 1 inserts_a [] (queued refl refl) tt (refl, refl, refl),
   (
     machine_of put,
-    works_bringing page_1 taken put.pages 1 puts [] (page_comes, tt) (inl refl, tt) (has_room taken 1 (omega arith, omega arith) refl) put_row (queued refl refl) (record { allowed = put_fits; log = refl }) (refl, refl, refl) refl,
+    works_bringing page_1 taken put.pages 1 puts [] (page_comes, tt) (refl, tt) (has_room taken 1 (omega arith, omega arith) refl) put_row (queued refl refl) (record { allowed = put_fits; log = refl }) (refl, refl, refl) refl,
     (
       machine_of is_forced,
       inr (omega arith, forces put Moved),

@@ -49,10 +49,10 @@ root_is_not_read = (
     inr (takes (at.PosterWalk job None), takes_to_walk, performed_untold line_taken 17 (takes (at.PosterWalk job None)) [] (it_leaves _) tt (refl, refl, refl)),
     (
       untold_scene line_given_up,
-      reads_not both_taken 1 3 [] (inl refl, (inr refl, tt)) (only_looks both_taken 1 refl refl) refl is_page refl (queued refl refl) tt (refl, refl, refl),
+      reads_not both_taken 1 3 [] (refl, (refl, tt)) (only_looks both_taken 1 refl refl) refl is_page refl (queued refl refl) tt (refl, refl, refl),
       (
         untold_scene both_given_up,
-        reads_not line_given_up 17 3 [] (inr refl, (inl refl, tt)) (only_looks line_given_up 17 refl refl) refl is_page refl (queued refl refl) tt (refl, refl, refl),
+        reads_not line_given_up 17 3 [] (refl, (refl, tt)) (only_looks line_given_up 17 refl refl) refl is_page refl (queued refl refl) tt (refl, refl, refl),
         (
           untold_scene both_given_up,
           (refl, refl),

@@ -41,7 +41,7 @@ takes_line_untold s actor line jobs queue none used =
     inr (λ other out. free other (record { another = out.another; excluded = out.excluded }), inl (performed_untold s actor (taking line) jobs queue tt used))
 
 -- the wanted page isn't in memory and can't be read
-pub reads_not : (s : Scene) (actor id : ℕ) (jobs : List Job) → IsClearIn s actor → ¬ (IsUnready (machine_of s) actor) → IsWantedPage (wanted_in s actor) id → ¬ (IsNoPage s.meta id)
+pub reads_not : (s : Scene) (actor id : ℕ) (jobs : List Job) → IsClearIn s → ¬ (IsUnready (machine_of s) actor) → IsWantedPage (wanted_in s actor) id → ¬ (IsNoPage s.meta id)
     → entry_at id s.pages ≡ None → ChangesQueue (gives_up drops.ReadFault (standing s.at_work actor)) s.jobs jobs → MayBeIn s (gives_up drops.ReadFault (standing s.at_work actor)).op
     → IsUsedAsItIs actor (gives_up drops.ReadFault (standing s.at_work actor)) jobs s
     → Works (untold_scene s) actor (outcome_of (gives_up drops.ReadFault (standing s.at_work actor)).says) (untold_scene (after_as_it_is actor (gives_up drops.ReadFault (standing s.at_work actor)) jobs s))
