@@ -1,5 +1,5 @@
 -- After a step the page that a walk holds has the walk's point in its box, and the parent that a poster holds a child leaf there.
-use Rattle.std.proofs.Common.{◌≡◌, ◌≢◌, ◌⊎◌, inl, inr, ℕ, ◌==◌, List, [], Option, Some, None, IfSome, IsSome, refl, sym, ap, ◌∙◌, subst}
+use Rattle.std.proofs.Common.{length, ◌≡◌, ◌≢◌, ◌⊎◌, inl, inr, ℕ, ◌==◌, List, [], Option, Some, None, IfSome, IsSome, refl, sym, ap, ◌∙◌, subst}
 use Rattle.hb_core.proofs.Latches.SameLatches.{walk_stays, HasHeld, live_held}
 use Rattle.hb_core.proofs.Latches.HeldKept.{each_held}
 use Rattle.hb_frag.specs.declared.pages.LivePage.{LivePage}
