@@ -31,9 +31,10 @@ again() {
 
 mkdir new
 says "create" "created (0)" "$(try)"
-# seven writes of zeros; then the gate, the root, the body of the superblock and its gate again
+# seven writes of zeros; the superblocks' places and the log area are zero then and not written again, so a sync comes, and
+# then the root, the body of the superblock and its gate, each with a sync
 zeros="pwrite64, pwrite64, pwrite64, pwrite64, pwrite64, pwrite64, pwrite64"
-says "its calls" "statx g, openat /, openat /, openat /, openat new, flock, ftruncate, $zeros, fsync, pwrite64, fdatasync, pwrite64, fdatasync, pwrite64, fdatasync, pwrite64, fdatasync, link new g, unlink new, openat ., fsync, write, " \
+says "its calls" "statx g, openat /, openat /, openat /, openat new, flock, ftruncate, $zeros, fsync, fdatasync, pwrite64, fdatasync, pwrite64, fdatasync, pwrite64, fdatasync, link new g, unlink new, openat ., fsync, write, " \
     "$(awk '/^statx/ { on = 1 }
             on && /^[a-z0-9]+\(/ { name = $0; sub(/\(.*/, "", name); words = ""; rest = $0
                 while (match(rest, /"[^"]*"/)) { word = substr(rest, RSTART + 1, RLENGTH - 2); rest = substr(rest, RSTART + RLENGTH)

@@ -42,7 +42,7 @@ five() {
     yes "16 search 10000000000000000000 18446744073709551615 10000000000000000000 18446744073709551615 10000000000000000000 18446744073709551615 10000000000000000000 18446744073709551615" |
         head -n 400000 >text
     echo "1 insert 1 2 3 4 =last" >>text
-    says "$1: an input of more than 64 MiB" "70800023 400000 400001 ok" \
+    says "$1: an input of more than 64 MiB" "71200023 400000 400001 ok" \
         "$("$HBPI" - dry 4 <text >got; echo "$(wc -c <text) $(grep -c ' box 0$' got) $(grep ' ok$' got)")"
     (echo "1 insert 7 =there"; yes "1 lookup 7" | head -n 100000) >text
     says "$1: an output of more than 1 MiB: status, answers, order" "0 1 100000 1" \

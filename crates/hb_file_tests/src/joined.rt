@@ -37,10 +37,9 @@ fn opened(alloc: Global, at: usize, piece: &[u8], failing: u64) -> Option<(Answe
 
 /// Whether it opens to the file, leaves its pages and opens so again; and with how many device calls.
 fn opens_by(alloc: Global) -> Option<(bool, u64)> {
-    let (_, disk) = opened(alloc, 0, &[], u64::MAX)?;
-    let calls = disk.calls();
-    let disk = self::disk(alloc, 0, &[], u64::MAX)?;
-    Some((opens(alloc, disk, GOOD, &LEFT), calls))
+    let (_, left) = opened(alloc, 0, &[], u64::MAX)?;
+    let again = disk(alloc, 0, &[], u64::MAX)?;
+    Some((opens(alloc, again, GOOD, &LEFT), left.calls()))
 }
 
 #[test]

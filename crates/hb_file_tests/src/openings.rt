@@ -148,7 +148,7 @@ fn opened(alloc: Global, failing: u64) -> Option<(Answer, MemDisk)> {
 }
 
 /// Whether these bytes stand at an offset.
-pub(crate) fn stands(bytes: &[u8], at: usize, want: &[u8]) -> bool {
+fn stands(bytes: &[u8], at: usize, want: &[u8]) -> bool {
     match bytes.get(at..) {
         Some(rest) => rest.starts_with(want),
         None => false,
@@ -166,7 +166,7 @@ pub(crate) fn all_stand(bytes: &[u8], pieces: &[(usize, &[u8])]) -> bool {
 }
 
 /// Whether bytes open to the file.
-pub(crate) fn opens_again(alloc: Global, bytes: &[u8]) -> bool {
+fn opens_again(alloc: Global, bytes: &[u8]) -> bool {
     match bytes.to_vec(alloc) {
         Ok(bytes) => answer_of(alloc, bytes) == GOOD,
         Err(_) => false,
