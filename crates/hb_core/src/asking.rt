@@ -16,11 +16,11 @@ ghost use Rattle.hb_core.specs.Relied.{MayLookFor, MayTest};
 
 use crate::leaf_boxes::box_by_leaf;
 use crate::state::Core;
-use hb_steps::{AskedBox, BoxTest};
 use hb_activity::{Activity, Wanted};
 use hb_disk::Device;
 use hb_layout::Meta;
 use hb_space::{Actor, Area, Point};
+use hb_steps::{AskedBox, BoxTest};
 use hb_store::Why;
 use hb_view::PageView;
 

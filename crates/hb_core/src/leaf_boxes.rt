@@ -7,10 +7,10 @@ ghost use Rattle.hb_steps.specs.Asking.{box_by_view, box_of_child, box_of_place,
 ghost use Rattle.hb_core.specs.CoreSeen.{core_seen};
 ghost use Rattle.hb_steps.specs.Machines.{live_here};
 
-use hb_steps::{AskedBox, BoxTest};
 use crate::state::Core;
 use hb_disk::Device;
 use hb_space::Area;
+use hb_steps::{AskedBox, BoxTest};
 use hb_view::{LeafView, PageView};
 
 impl<D: Device> Core<D> {

@@ -28,7 +28,6 @@ ghost use Rattle.hb_core.specs.Going.{IsWorking};
 
 use crate::counts::TidyCounts;
 use crate::halts::Halt;
-use hb_steps::Outcome;
 use crate::reading::idle;
 use crate::state::Core;
 use arrayvec::ArrayVec;
@@ -39,6 +38,7 @@ use hb_latch::laws::{each_call_changes_one_latch, each_latch_counts_once};
 use hb_ops::Op;
 use hb_set::Reply;
 use hb_space::{Actor, NoMemory};
+use hb_steps::Outcome;
 use hb_view::PageView;
 
 impl<D: Device> Core<D> {

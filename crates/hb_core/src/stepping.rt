@@ -21,13 +21,13 @@ ghost use Rattle.hb_core.specs.Relied.{AwaitsSomePlace, MayAwait, MayRun, MayTak
 
 use crate::halts::copy_of;
 use crate::locking::first_against;
-use hb_steps::Outcome;
 use crate::reading::idle;
 use crate::state::Core;
 use hb_activity::{Activity, Job, JobKind, box_lock_for};
 use hb_disk::Device;
 use hb_set::{Command, Line, Reply};
 use hb_space::{Actor, Areas, NoMemory, Record, Records};
+use hb_steps::Outcome;
 use hb_store::{Flushed, StopWhy};
 use std::alloc::Global;
 use std::mem;

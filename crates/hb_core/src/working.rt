@@ -24,13 +24,13 @@ ghost use Rattle.hb_core.specs.Working.{Halts, HaltsPinned, HasCome, IsStop, May
 ghost use Rattle.hb_core.specs.Relied.{IsAtWork, MayDoRow, MayLookFor, MayNumber};
 
 use crate::halts::Halt;
-use hb_steps::machine_laws::rows_may_be_done;
-use hb_steps::Outcome;
 use crate::state::Core;
 use arrayvec::ArrayVec;
 use hb_activity::Wanted;
 use hb_disk::Device;
 use hb_space::Actor;
+use hb_steps::Outcome;
+use hb_steps::machine_laws::rows_may_be_done;
 use hb_store::a_store_keeps_one_file;
 
 impl<D: Device> Core<D> {

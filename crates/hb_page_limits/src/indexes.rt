@@ -31,12 +31,7 @@ fn has(op: &Op, k: u8) -> bool
 }
 
 /// An operation on the file, and on the page that it reads.
-pub(crate) fn changed(
-    alloc: Global,
-    op: &Op,
-    meta: &Meta,
-    page: Option<&LivePage>,
-) -> Option<()> {
+pub(crate) fn changed(alloc: Global, op: &Op, meta: &Meta, page: Option<&LivePage>) -> Option<()> {
     if !meta.is_layout() || !has(op, meta.k) {
         return None;
     }
@@ -154,7 +149,9 @@ impl Index {
     }
 
     fn is_reached(self, alloc: Global, mask: u32) -> Option<()> {
-        let fields = self.row.fields(alloc, self.level, self.count.saturating_sub(1));
+        let fields = self
+            .row
+            .fields(alloc, self.level, self.count.saturating_sub(1));
         let page = page_of(alloc, fields.ok()?)?;
         let point = self.row.within()?;
         if !reaches(&page, &point) {

@@ -226,8 +226,12 @@ fn star(alloc: Global, k: u8, mask: u8, arm: u64) -> Option<Vec<Record>> {
     for axis in 0..k {
         if is_in(mask, axis) {
             for step in 1..=arm {
-                records.push(ray(k, axis, 500u64.saturating_sub(step))?).ok()?;
-                records.push(ray(k, axis, 500u64.saturating_add(step))?).ok()?;
+                records
+                    .push(ray(k, axis, 500u64.saturating_sub(step))?)
+                    .ok()?;
+                records
+                    .push(ray(k, axis, 500u64.saturating_add(step))?)
+                    .ok()?;
             }
         }
     }

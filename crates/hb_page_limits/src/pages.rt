@@ -157,12 +157,7 @@ impl Row {
     }
 
     /// The same around one more leaf of its kind.
-    pub(crate) fn fields(
-        self,
-        alloc: Global,
-        level: u8,
-        cuts: u32,
-    ) -> Result<Vec<u8>, AllocError> {
+    pub(crate) fn fields(self, alloc: Global, level: u8, cuts: u32) -> Result<Vec<u8>, AllocError> {
         let mut leaf = Vec::new(alloc);
         self.put_leaf(&mut leaf, cuts)?;
         self.around(alloc, level, cuts, &leaf)
@@ -179,12 +174,12 @@ impl Row {
 
 /// The fields of a page of the whole space that gave this box to the fresh page: of each attribute, first what lies below the
 /// box is cut off, then what lies above it.
-pub(crate) fn fields_around(
-    alloc: Global,
-    level: u8,
-    hole: &Area,
-) -> Result<Vec<u8>, AllocError> {
-    let outside: &[u8] = if level == 0 { &NOTHING } else { &[2, 0, 0, 0, 7] };
+pub(crate) fn fields_around(alloc: Global, level: u8, hole: &Area) -> Result<Vec<u8>, AllocError> {
+    let outside: &[u8] = if level == 0 {
+        &NOTHING
+    } else {
+        &[2, 0, 0, 0, 7]
+    };
     let mut bytes = head_of(alloc, level, hole.lo().attributes())?;
     let mut behind = Vec::new(alloc);
     for ((axis, least), greatest) in (0..4).zip(hole.lo().values()).zip(hole.hi().values()) {
