@@ -273,7 +273,7 @@ life: 2+1 1 => 0 14 9 5 10 nn#___3abc#___1e__________nnnn
 life: 3+1 0 => 1 9 7 4 6 nn#___4abcd_______________nnnn
 life: 3+1 1 => 0 15 9 4 10 nn#___4abcd#___1e_________nnnn
 // a put of one record
-frame:  => 16 0 16 n#___%_1___1_______51annnnnnn
+frame:  => 16 0 16 n#___%_1___1_______51annnnnnnn
 ";
 
 // Of the groups that are forced together all are there or none.
