@@ -87,7 +87,8 @@ pub use Rattle.hb_steps.proofs.Table.LineFates.{LineFate, fate_row}
 pub use Rattle.hb_steps.proofs.Walks.MayBeAsked.{children_may_be_asked}
 pub use Rattle.hb_steps.specs.Acting.{NeedsNumber, LacksNeeded, MayNeed, Decodes, takes_number, DoesRow}
 pub use Rattle.hb_steps.specs.AllowedLaws.{AnyPage}
-pub use Rattle.hb_steps.specs.Asking.{looked_live, wanted_by, AskedBox, asked_box, box_at, box_by_leaf, box_of_child, box_of_place, box_of_sibling, around_box, this_box, whole_box}
+pub use Rattle.hb_steps.specs.declared.asked_boxes.AskedBox.{AskedBox}
+pub use Rattle.hb_steps.specs.Asking.{looked_live, wanted_by, asked_box, box_at, box_by_leaf, box_of_child, box_of_place, box_of_sibling, around_box, this_box, whole_box}
 pub use Rattle.hb_steps.specs.AskingDeciders.{AsksPoint, AsksPoster, AsksSearcher, WalksToSearch, HasPointRow, HasPosterRow, HasSearchRow, sight_in}
 pub use Rattle.hb_steps.specs.Fetching.{Brings, MustStay, IsWantedPage, IsFreeHead}
 pub use Rattle.hb_steps.specs.Forcing.{FailsToWrite, FlushesOnce, ForcesAll, StaysSo}
