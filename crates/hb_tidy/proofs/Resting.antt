@@ -13,8 +13,7 @@ use Rattle.hb_activity.specs.declared.jobs.JobKind.TheVariants.{Merge, Post}
 use Rattle.hb_disk.specs.Model.{DiskModel}
 use Rattle.hb_lemmas.proofs.Lists.{All-alone, at_place, place_within}
 use Rattle.hb_space.specs.Actors.{IsActor}
-use Rattle.hb_steps.proofs.Facts.StillThere.{may_or_not}
-use Rattle.hb_steps.proofs.Facts.Ways.{others_stay}
+use Rattle.hb_steps.proofs.Facts.StillThere.{may_or_not, others_stay}
 use Rattle.hb_steps.specs.KeptFits.{class_for}
 use Rattle.hb_steps.specs.Machines.{Machine}
 use Rattle.hb_steps.specs.ProgressLaws.{jobs_of}
