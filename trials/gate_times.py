@@ -21,7 +21,7 @@ TICKS = os.sysconf("SC_CLK_TCK")
 PAGE = f"{ROOT}/docs/PROOFS.md"
 BEGIN, END = "<!-- trials/gate_times.py -->", "<!-- end of the table -->"
 KINDS = ("proof", "tests", "edits")
-POLL = 0.1
+POLL = 0.5
 
 
 def words_of(pid):
