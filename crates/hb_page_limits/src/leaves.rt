@@ -80,9 +80,9 @@ fn put_record(bytes: &mut Vec<u8>, record: &Record) -> Result<(), AllocError> {
     bytes.extend_from_slice(body)
 }
 
-/// The leaf of these records as bytes.
+/// The leaf of these records, of which there are at most 48, as bytes.
 fn spelled(alloc: Global, records: &[Record]) -> Result<Vec<u8>, AllocError> {
-    let mut bytes = Vec::from_slice(alloc, &[1, 0, records.len() as u8])?;
+    let mut bytes = Vec::from_slice(alloc, &[1, 0, (records.len() % 256) as u8])?;
     for record in records {
         put_record(&mut bytes, record)?;
     }
