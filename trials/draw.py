@@ -2,26 +2,30 @@
 """Draws the map of a file of two attributes as an SVG picture.
 
     trials/draw.py < MAP > OUT.svg
-    trials/draw.py MAP > OUT.svg
+    trials/draw.py MAP [LEVEL] > OUT.svg
 
-MAP is what `map` prints, or trials/mapping.py. Each level has a panel, the highest first. The first attribute goes to the right, the
-second one upwards. The axes are bent, so that each two cuts stand apart. Each page has a colour of its own. A box is a leaf: of records
-with their number, or of a child with the number of its page, in that page's colour. A hatched rim, in the colour of the page that has
-it, is a hole; within it stands what the page has that it names.
+MAP is what `map` prints, or trials/mapping.py; `-` is the standard input. Each level has a panel, the highest first; with LEVEL that one
+alone is drawn. The first attribute goes to the right, the second one upwards. The axes are bent, so that each two cuts stand apart. Each
+page has a colour of its own. A box is a leaf: of records with their number, or of a child with the number of its page, in that page's
+colour. A hatched rim, in the colour of the page that has it, is a hole; within it stands what the page has that it names. The number of a
+page that has nothing but holes stands on its rim. Of a level of many pages each page's own leaves are drawn without rims, and the legend
+says how many there are. A number without room is left out; a browser tells it under the pointer. An input that is no such map, or is of
+another number of attributes, is told in one line, and the status is 1.
 """
 import collections
 import colorsys
 import sys
 
 TOP = 2 ** 64 - 1
-# the least and the greatest sides of a panel and how much of them a cut gets, and what is left around a panel
-LEAST, MOST, EACH, LEFT, ABOVE, BELOW = 440, 1600, 26, 40, 40, 40
-# what stands above all panels, a column of the legend and a line in it, and the width of a hole's rim
-HEAD, COLUMN, LINE, RIM = 72, 285, 20, 6
+# the least and the greatest side of a panel and how much of it a cut gets, and what is left around a panel
+LEAST, MOST, EACH, LEFT, ABOVE, BELOW = 300, 1800, 50, 52, 40, 40
+# what stands above all panels, a line of the legend, the width of a hole's rim, and a level of more pages than this has no rims
+HEAD, LINE, RIM, MANY = 72, 20, 6, 40
 KEY = (
     "Dark plate: the number of a page. Light plate: the number of a child. Bare number: how many records.",
     "Hatched: a hole of the page of that colour; within it stands the page that it names.",
 )
+MANY_KEY = "Of a level of more than %d pages: colours part the pages, without rims." % MANY
 GOLDEN = 0.618034
 FONT = 'font-family="DejaVu Sans, Helvetica, Arial, sans-serif"'
 Leaf = collections.namedtuple("Leaf", "kind what low high")
@@ -40,27 +44,63 @@ class Page:
         return [leaf for leaf in self.leaves if leaf.kind == "hole"]
 
 
+class NoMap(Exception):
+    """Why an input can't be drawn."""
+
+
+def read_head(line):
+    """What the first line says."""
+    words = line.split()
+    if words[::2] != ["height", "root", "pages", "free"] or not all(word.isdigit() for word in words[1::2]) or len(words) != 8:
+        raise NoMap("no map: the first line isn't `height H root R pages LIVE free F`")
+    return dict(zip(words[::2], map(int, words[1::2])))
+
+
+def read_leaf(kind, words):
+    ends = [int(word) for word in words[1:]]
+    if len(ends) != 4:
+        raise NoMap(f"a map of {len(ends) // 2} attributes; only one of two can be drawn")
+    return Leaf(kind, int(words[0]), tuple(ends[::2]), tuple(ends[1::2]))
+
+
 def read_map(lines):
     """What the first line says, and the pages by number."""
-    head, pages, page = next(lines).split(), {}, None
-    for line in lines:
-        kind, *words = line.split()
-        if kind == "page":
-            page = Page(*(int(word) for word in (words[0], *words[2::2])))
-            pages[page.number] = page
-            continue
-        ends = [int(word) for word in words[1:]]
-        if len(ends) != 4:
-            sys.exit("only a map of two attributes can be drawn")
-        page.leaves.append(Leaf(kind, int(words[0]), tuple(ends[::2]), tuple(ends[1::2])))
-    return dict(zip(head[::2], map(int, head[1::2]))), pages
+    said, pages, page = read_head(next(lines, "")), {}, None
+    for at, line in enumerate(lines, 2):
+        kind, *words = line.split() or [""]
+        try:
+            if kind == "page":
+                page = Page(*(int(word) for word in (words[0], *words[2::2])))
+                pages[page.number] = page
+            elif kind in ("records", "child", "hole") and page:
+                page.leaves.append(read_leaf(kind, words))
+            else:
+                raise ValueError
+        except (ValueError, IndexError, TypeError):
+            raise NoMap(f"no map: line {at} is no page and no leaf") from None
+    check_whole(said, pages)
+    return said, pages
+
+
+def check_whole(said, pages):
+    """Whether each page is there that the first line or a leaf speaks of."""
+    named = {leaf.what for page in pages.values() for leaf in page.leaves if leaf.kind != "records"}
+    if len(pages) != said["pages"] or not (named | {said["root"]}) <= pages.keys() or not all(page.leaves for page in pages.values()):
+        raise NoMap("a map that was cut short: pages or leaves are missing")
+    for level in range(said["height"]):
+        if not whole_pages(pages, level):
+            raise NoMap(f"a map that was cut short: no page of level {level} has the whole space")
+
+
+def whole_pages(pages, level):
+    return [page for page in pages.values() if page.level == level and page.box() == ((0, 0), (TOP, TOP))]
 
 
 # ---- where values stand
 
 def ends_of(pages, axis):
     """Where leaves begin, and the end behind all values."""
-    return sorted({0, TOP + 1, *(leaf.low[axis] for page in pages.values() for leaf in page.leaves)})
+    return sorted({0, TOP + 1, *(end for page in pages for leaf in page.leaves for end in (leaf.low[axis], leaf.high[axis] + 1))})
 
 
 class Scale:
@@ -81,10 +121,8 @@ class Scale:
 
 
 def scales_of(pages):
-    """The scales of both attributes: the more cuts, the longer."""
-    ends = [ends_of(pages, axis) for axis in (0, 1)]
-    side = min(MOST, max(LEAST, EACH * max(map(len, ends))))
-    return [Scale(its, side) for its in ends]
+    """The scales of both attributes over these pages: the more cuts, the longer."""
+    return [Scale(ends, min(MOST, max(LEAST, EACH * len(ends)))) for ends in (ends_of(pages, axis) for axis in (0, 1))]
 
 
 Rect = collections.namedtuple("Rect", "left top right bottom")
@@ -123,10 +161,15 @@ def box(rect, more):
     return f'<rect x="{left:.1f}" y="{top:.1f}" width="{max(right - left, 0):.1f}" height="{max(bottom - top, 0):.1f}" {more}/>'
 
 
-def label(x, y, words, fill, ink, size=12):
-    """Words on a small plate around a place."""
+def plate(x, y, words, high=9):
+    """The room of a small plate around a place."""
     half = 4 * len(str(words)) + 5
-    return box(Rect(x - half, y - 9, x + half, y + 9), f'rx="4" {fill}') + text(x, y + 4, words, size, f'text-anchor="middle" fill="{ink}"')
+    return Rect(x - half, y - high, x + half, y + high)
+
+
+def label(x, y, words, fill, ink, high=9):
+    """Words on a small plate around a place."""
+    return box(plate(x, y, words, high), f'rx="4" {fill}') + text(x, y + high / 2, words, high + 3, f'text-anchor="middle" fill="{ink}"')
 
 
 def spoken(leaf):
@@ -138,7 +181,7 @@ def spoken(leaf):
 
 def hatching(pages):
     """A pattern of lines for each page that has a hole."""
-    for page in pages.values():
+    for page in pages:
         if page.holes():
             yield (f'<pattern id="hatch{page.number}" width="5" height="5" patternUnits="userSpaceOnUse" patternTransform="rotate(45)">'
                    f'<rect width="5" height="5" fill="{colour(page.number, 0.93)}"/><rect width="2" height="5" fill="{colour(page.number, 0.42)}"/></pattern>')
@@ -146,17 +189,134 @@ def hatching(pages):
 
 # ---- a panel
 
-def leaf_marks(page, leaf, rect):
-    """A leaf that is no hole: its box, and what it says where there is room."""
-    width, height = rect.right - rect.left, rect.bottom - rect.top
-    x, y = (rect.left + rect.right) / 2, (rect.top + rect.bottom) / 2
-    yield f"<g><title>page {page.number}, {spoken(leaf)}</title>"
-    yield box(rect, f'fill="{colour(page.number, 0.9)}" stroke="{colour(page.number, 0.4)}" stroke-width="0.8"')
-    if leaf.kind == "records" and width > 12 and height > 14:
-        yield text(x, y + 5, leaf.what, 13, 'text-anchor="middle" fill="#222"')
-    if leaf.kind == "child" and width > 20 and height > 20:
-        yield label(x, y, leaf.what, f'fill="{colour(leaf.what, 0.8)}" stroke="{colour(leaf.what, 0.35)}"', "#222")
-    yield "</g>"
+class Panel:
+    """The marks of a level, and the room that its words take."""
+
+    def __init__(self, pages, level, root):
+        self.pages, self.level, self.root, self.taken, self.last = pages, level, root, [], []
+        self.of_level = [page for page in pages.values() if page.level == level]
+        self.scales = scales_of(self.of_level)
+        self.width, self.height = (scale.side for scale in self.scales)
+
+    def put(self, room, marks):
+        self.taken.append(room)
+        return marks
+
+    def is_free(self, room):
+        return all(room.right <= it.left or it.right <= room.left or room.bottom <= it.top or it.bottom <= room.top for it in self.taken)
+
+    def leaf_marks(self, page, leaf, rect):
+        """A leaf that is no hole: its box, and what it says where there is room."""
+        width, height = rect.right - rect.left, rect.bottom - rect.top
+        x, y = (rect.left + rect.right) / 2, (rect.top + rect.bottom) / 2
+        room = plate(x, y, leaf.what)
+        yield f"<g><title>page {page.number}, {spoken(leaf)}</title>"
+        yield box(rect, f'fill="{colour(page.number, 0.9)}" stroke="{colour(page.number, 0.4)}" stroke-width="0.8"')
+        if leaf.kind == "records" and width > 8 * len(str(leaf.what)) + 4 and height > 14:
+            yield self.put(room, text(x, y + 5, leaf.what, 13, 'text-anchor="middle" fill="#222"'))
+        if leaf.kind == "child" and width > room.right - room.left + 2 and height > 20:
+            yield self.put(room, label(x, y, leaf.what, f'fill="{colour(leaf.what, 0.8)}" stroke="{colour(leaf.what, 0.35)}"', "#222"))
+        yield "</g>"
+
+    def number_mark(self, page, rect):
+        """The number of a page in the upper left corner of its widest leaf, where it fits beside what stands there."""
+        half = 4 * len(str(page.number)) + 5
+        room = plate(rect.left + half + 3, rect.top + 12, page.number)
+        if rect.right - rect.left > 2 * half + 4 and rect.bottom - rect.top > 22 and self.is_free(room):
+            yield self.put(room, label(rect.left + half + 3, rect.top + 12, page.number, f'fill="{colour(page.number, 0.35)}"', "#fff"))
+
+    def page_marks(self, page, sides=(0, 0, 0, 0)):
+        """A page and, within its holes, those that they name. Its number stands in its widest leaf, or on the rim of a hole."""
+        widest, rims = (0, 0, 0, None), []
+        for leaf in page.leaves:
+            rect = inner(rectangle(self.scales, leaf.low, leaf.high), shared(leaf, page, sides))
+            width, height = rect.right - rect.left, rect.bottom - rect.top
+            if leaf.kind == "hole":
+                rim = max(1.5, min(RIM, width / 9, height / 9))
+                rims.append((rect, rim))
+                yield from hole_marks(page, leaf, rect, rim)
+                yield from self.page_marks(self.pages[leaf.what], [side + rim for side in shared(leaf, page, sides)])
+            else:
+                yield from self.leaf_marks(page, leaf, rect)
+                widest = max(widest, (min(width, 60) * min(height, 60), -rect.top, -rect.left, rect))
+        if widest[0]:
+            yield from self.number_mark(page, widest[3])
+        else:
+            self.last.append((page, rims))
+
+    def rim_marks(self):
+        """The numbers of the pages that have nothing but holes, each on a rim, clear of all other numbers."""
+        for page, rims in self.last:
+            half = 4 * len(str(page.number)) + 5
+            places = [(rect.left + part * (rect.right - rect.left), y) for rect, rim in rims for part in (0.25, 0.5, 0.75, 0.1, 0.9)
+                      for y in (rect.bottom - rim / 2, rect.top + rim / 2)]
+            for x, y in places:
+                at = min(max(x, half), self.width - half)
+                room = plate(at, y, page.number, 7)
+                if self.is_free(room):
+                    yield self.put(room, label(at, y, page.number, f'fill="{colour(page.number, 0.35)}" stroke="#fff"', "#fff", 7))
+                    break
+
+    def flat_marks(self):
+        """Each page's own leaves, without rims: of many pages no rim could be told from the next."""
+        for page in self.of_level:
+            widest = (0, 0, 0, None)
+            for leaf in page.leaves:
+                if leaf.kind != "hole":
+                    rect = rectangle(self.scales, leaf.low, leaf.high)
+                    yield from self.leaf_marks(page, leaf, rect)
+                    widest = max(widest, (min(rect.right - rect.left, 60) * min(rect.bottom - rect.top, 60), -rect.top, -rect.left, rect))
+            if widest[0]:
+                yield from self.number_mark(page, widest[3])
+
+    def marks(self):
+        kind = "pages of records" if self.level == 0 else "index pages"
+        yield text(0, -12, f"Level {self.level}: {kind}", 14, 'font-weight="bold" fill="#222"')
+        if len(self.of_level) > MANY:
+            yield from self.flat_marks()
+            yield from self.summary()
+        else:
+            yield from self.page_marks(whole_pages(self.pages, self.level)[0])
+            yield from self.rim_marks()
+            yield from self.legend()
+        yield from axis_marks(self.scales)
+
+    def summary(self):
+        """What the legend says of a level of many pages."""
+        weights = sorted(page.weight for page in self.of_level)
+        orphans = sum(page.parents == 0 and page.number != self.root for page in self.of_level)
+        for at, words in enumerate((f"{len(weights)} pages", f"weight {weights[0]} to {weights[-1]}, {weights[len(weights) // 2]} in the middle",
+                                    f"{orphans} without a parent")):
+            yield text(self.width + 28, 12 + LINE * at, words, 12, 'fill="#222"')
+
+    def rows(self):
+        return max(1, int(self.height) // LINE)
+
+    def said(self):
+        """A line of the legend for each page."""
+        holder = {leaf.what: page.number for page in self.of_level for leaf in page.holes()}
+        for page in self.of_level:
+            said = [f"weight {page.weight}", "root" if page.number == self.root else f"parents {page.parents}"]
+            yield page, ", ".join(said + ([f"hole of {holder[page.number]}"] if page.number in holder else []))
+
+    def column(self):
+        """How wide a column of the legend is."""
+        return 42 + max(7.5 * len(f"page {page.number}: {words}") for page, words in self.said())
+
+    def whole_width(self):
+        if len(self.of_level) > MANY:
+            return self.width + 300
+        return self.width + 28 + self.column() * -(-len(self.of_level) // self.rows())
+
+    def legend(self):
+        """A line for each page of the level, in columns."""
+        for at, (page, words) in enumerate(self.said()):
+            left, top = self.width + 28 + at // self.rows() * self.column(), at % self.rows() * LINE
+            yield box(Rect(left, top, left + 14, top + 14), f'fill="{colour(page.number, 0.9)}"')
+            if page.holes():
+                yield box(Rect(left, top, left + 14, top + 7), f'fill="url(#hatch{page.number})"')
+            yield box(Rect(left, top, left + 14, top + 14), f'fill="none" stroke="{colour(page.number, 0.4)}"')
+            yield text(left + 21, top + 12, f'<tspan font-weight="bold">page {page.number}</tspan>: {words}', 12, 'fill="#222"')
 
 
 def hole_marks(page, leaf, rect, rim):
@@ -167,27 +327,9 @@ def hole_marks(page, leaf, rect, rim):
            f'stroke="{colour(page.number, 0.4)}" stroke-width="0.8"/></g>')
 
 
-def page_marks(pages, page, scales, sides=(0, 0, 0, 0)):
-    """A page and, within its holes, those that they name. The number of the page stands in its widest leaf."""
-    widest = (0, 0, 0, None)
-    for leaf in page.leaves:
-        rect = inner(rectangle(scales, leaf.low, leaf.high), shared(leaf, page, sides))
-        width, height = rect.right - rect.left, rect.bottom - rect.top
-        if leaf.kind == "hole":
-            rim = max(1.5, min(RIM, width / 9, height / 9))
-            yield from hole_marks(page, leaf, rect, rim)
-            yield from page_marks(pages, pages[leaf.what], scales, [side + rim for side in shared(leaf, page, sides)])
-        else:
-            yield from leaf_marks(page, leaf, rect)
-            widest = max(widest, (min(width, 60) * min(height, 60), -rect.top, -rect.left, rect))
-    room, _, _, rect = widest
-    half = 4 * len(str(page.number)) + 5
-    if room and rect.right - rect.left > 2 * half + 4 and rect.bottom - rect.top > 40:
-        yield label(rect.left + half + 3, rect.top + 12, page.number, f'fill="{colour(page.number, 0.35)}"', "#fff")
-
-
 def axis_marks(scales):
     """The cuts below and beside a panel, as many as have room."""
+    across, up = scales
     for axis, scale in enumerate(scales):
         last = -99
         for end in scale.ends:
@@ -197,63 +339,53 @@ def axis_marks(scales):
                 continue
             last = at
             if axis:
-                yield text(-8, scale.side - at + 4, word, 10, 'text-anchor="end" fill="#555"')
-                yield f'<path d="M-5 {scale.side - at:.1f}h5" stroke="#777"/>'
+                yield text(-8, up.side - at + 4, word, 10, 'text-anchor="end" fill="#555"')
+                yield f'<path d="M-5 {up.side - at:.1f}h5" stroke="#777"/>'
             else:
-                yield text(at, scale.side + 17, word, 10, 'text-anchor="middle" fill="#555"')
-                yield f'<path d="M{at:.1f} {scale.side}v5" stroke="#777"/>'
+                yield text(at, up.side + 17, word, 10, 'text-anchor="middle" fill="#555"')
+                yield f'<path d="M{at:.1f} {up.side}v5" stroke="#777"/>'
 
 
-def legend(of_level, root, x, rows):
-    """A line for each page of a level, in columns of so many rows."""
-    holder = {leaf.what: page.number for page in of_level for leaf in page.holes()}
-    for at, page in enumerate(of_level):
-        left, top = x + at // rows * COLUMN, at % rows * LINE
-        said = [f"weight {page.weight}", "root" if page.number == root else f"parents {page.parents}"]
-        said += [f"hole of {holder[page.number]}"] if page.number in holder else []
-        yield box(Rect(left, top, left + 14, top + 14), f'fill="{colour(page.number, 0.9)}"')
-        if page.holes():
-            yield box(Rect(left, top, left + 14, top + 7), f'fill="url(#hatch{page.number})"')
-        yield box(Rect(left, top, left + 14, top + 14), f'fill="none" stroke="{colour(page.number, 0.4)}"')
-        yield text(left + 21, top + 12, f'<tspan font-weight="bold">page {page.number}</tspan>: {", ".join(said)}', 12, 'fill="#222"')
-
-
-def panel(pages, level, root, scales):
-    """The marks of a level, and how many columns its legend has."""
-    of_level = [page for page in pages.values() if page.level == level]
-    first = next(page for page in of_level if page.box() == ((0, 0), (TOP, TOP)))
-    marks = [text(0, -12, f"Level {level}: {'pages of records' if level == 0 else 'index pages'}", 14, 'font-weight="bold" fill="#222"')]
-    marks += page_marks(pages, first, scales)
-    marks += axis_marks(scales)
-    side, rows = scales[0].side, scales[0].side // LINE
-    marks += legend(of_level, root, side + 28, rows)
-    return marks, -(-len(of_level) // rows)
-
-
-def picture(said, pages):
-    scales = scales_of(pages)
-    panels = [panel(pages, level, said["root"], scales) for level in reversed(range(said["height"]))]
-    width = LEFT + scales[0].side + 28 + COLUMN * max(columns for _, columns in panels)
-    step = ABOVE + scales[0].side + BELOW
-    height = HEAD + len(panels) * step
-    yield f'<svg xmlns="http://www.w3.org/2000/svg" width="{width}" height="{height}" viewBox="0 0 {width} {height}">'
-    yield f'<rect width="{width}" height="{height}" fill="#fff"/><defs>{"".join(hatching(pages))}</defs>'
+def picture(said, pages, levels):
+    panels = [Panel(pages, level, said["root"]) for level in levels]
+    words = [*KEY, MANY_KEY] if any(len(panel.of_level) > MANY for panel in panels) else KEY
+    head = HEAD + 17 * (len(words) - 2)
+    width = LEFT + max(720, *(panel.whole_width() for panel in panels))
+    height = head + sum(ABOVE + panel.height + BELOW for panel in panels)
+    yield f'<svg xmlns="http://www.w3.org/2000/svg" width="{width:.0f}" height="{height:.0f}" viewBox="0 0 {width:.0f} {height:.0f}">'
+    drawn = [page for panel in panels for page in panel.of_level if len(panel.of_level) <= MANY]
+    yield f'<rect width="{width:.0f}" height="{height:.0f}" fill="#fff"/><defs>{"".join(hatching(drawn))}</defs>'
     yield text(LEFT, 28, f"Height {said['height']}, {said['pages']} pages in use, {said['free']} free", 16, 'font-weight="bold" fill="#222"')
-    for at, words in enumerate(KEY):
-        yield text(LEFT, 49 + 17 * at, words, 12, 'fill="#444"')
-    for at, (marks, _) in enumerate(panels):
-        yield f'<g transform="translate({LEFT} {HEAD + ABOVE + at * step})">'
-        yield from marks
+    for at, line in enumerate(words):
+        yield text(LEFT, 49 + 17 * at, line, 12, 'fill="#444"')
+    top = head
+    for panel in panels:
+        yield f'<g transform="translate({LEFT} {top + ABOVE:.0f})">'
+        yield from panel.marks()
         yield "</g>"
+        top += ABOVE + panel.height + BELOW
     yield "</svg>"
+
+
+def wanted_levels(said, words):
+    """The levels to draw, the highest first."""
+    if not words:
+        return list(reversed(range(said["height"])))
+    if not words[0].isdigit() or int(words[0]) >= said["height"]:
+        raise NoMap(f"no level {words[0]}: the file has the levels 0 to {said['height'] - 1}")
+    return [int(words[0])]
 
 
 def main():
     sys.setrecursionlimit(100000)
-    with open(sys.argv[1], encoding="ascii") if sys.argv[1:] else sys.stdin as lines:
-        said, pages = read_map(iter(lines))
-    for line in picture(said, pages):
-        print(line)
+    file, *words = sys.argv[1:] or ["-"]
+    try:
+        with open(file, encoding="ascii") if file != "-" else sys.stdin as lines:
+            said, pages = read_map(iter(lines))
+        for line in picture(said, pages, wanted_levels(said, words)):
+            print(line)
+    except (NoMap, OSError, UnicodeDecodeError) as fault:
+        sys.exit(f"draw.py: {fault}")
 
 
 if __name__ == "__main__":

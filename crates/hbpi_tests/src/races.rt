@@ -60,7 +60,7 @@ const ROWS: [(&str, &str); 12] = [
         "step 2x5 1x4 2 1x2\n",
         "0 2 ok\n1 duplicate\n3 unfinished\n4 unfinished\norder 2 1 4 3\n",
     ),
-    // the first schedule of docs/SCHEDULES.md
+    // the schedule of examples/race.txt
     (
         "step 2 1 2 1x3 2 1x2 2x2 1x3 2\n",
         "0 2 ok\n1 duplicate\n3 found =c\n4 ok\norder 2 1 4 3\n",
