@@ -35,5 +35,5 @@ make() {
 
 # hears NAME WANT: what the last call told on its standard error, with # for the number of a process.
 hears() {
-    says "$1" "$2" "$(sed 's/new-[0-9]*/new-#/' told | tr '\n' '/')"
+    says "$1" "$2" "$(sed 's/hbpi-new-[0-9]*/hbpi-new-#/' told | tr '\n' '/')"
 }

@@ -14,8 +14,9 @@ hears "told" "hbpi: \"f\": can't be given its size: File too large (os error 27)
 says "what it leaves" "told" "$(ls)"
 { (ulimit -f 100; "$HBPI" f create 1 64 65536 6 32 >out 2>&1); } 2>/dev/null
 says "with the signal the process is ended" "153 " "$? $(cat out)"
-says "what it leaves" "f.new-# out told" "$(ls | sed 's/new-.*/new-#/' | tr '\n' ' ' | sed 's/ $//')"
+says "what it leaves" ".hbpi-new-# out told" "$(ls -A | sed 's/new-.*/new-#/' | tr '\n' ' ' | sed 's/ $//')"
 says "a second create" "created (0)" "$(make f)"
+rm .hbpi-new-*
 says "insert" "1 ok/order 1 (0)" "$(drive f '1 insert 5 =a/step 1x4')"
 before=$(cksum <f)
 printf '1 insert 6 =b\n1 lookup 5\nstep 1x7\n' >change

@@ -19,24 +19,27 @@ numbered() {
 
 # What stands in the folder new: files beside the name as beside.
 there() {
-    ls new | grep -v told | sed 's/^g\.new-.*/beside/' | tr '\n' ' ' | sed 's/ $//; s/^$/nothing/' | grep . || echo nothing
+    ls -A new | grep -v told | sed 's/^\.hbpi-new-.*/beside/' | tr '\n' ' ' | sed 's/ $//; s/^$/nothing/' | grep . || echo nothing
 }
 
 # A second create, and a lookup.
 again() {
-    rm -f new/g.new-*
+    rm -f new/.hbpi-new-*
     (cd new && [ ! -e g ] && make g && printf ', ')
     (cd new && drive g '1 lookup 5/step 1x3')
 }
 
 mkdir new
 says "create" "created (0)" "$(try)"
-says "its calls" "statx g, openat /, openat /, openat /, openat new, flock, ftruncate, fsync, pwrite64, fdatasync, pwrite64, pwrite64, fdatasync, pwrite64, fdatasync, pwrite64, fdatasync, link new g, unlink new, openat ., fsync, write, " \
+# seven writes of zeros; the superblocks' places and the log area are zero then and not written again, so a sync comes, and
+# then the root, the body of the superblock and its gate, each with a sync
+zeros="pwrite64, pwrite64, pwrite64, pwrite64, pwrite64, pwrite64, pwrite64"
+says "its calls" "statx g, openat /, openat /, openat /, openat new, flock, ftruncate, $zeros, fsync, fdatasync, pwrite64, fdatasync, pwrite64, fdatasync, pwrite64, fdatasync, link new g, unlink new, openat ., fsync, write, " \
     "$(awk '/^statx/ { on = 1 }
             on && /^[a-z0-9]+\(/ { name = $0; sub(/\(.*/, "", name); words = ""; rest = $0
                 while (match(rest, /"[^"]*"/)) { word = substr(rest, RSTART + 1, RLENGTH - 2); rest = substr(rest, RSTART + RLENGTH)
                     if (name ~ /write/) continue
-                    if (word ~ /\.new-/) word = "new"; words = words " " word }
+                    if (word ~ /\.hbpi-new-/) word = "new"; words = words " " word }
                 printf "%s%s, ", name, words }' trace)"
 numbered >all
 rm -rf new
@@ -77,5 +80,23 @@ rm -rf new && mkdir new
 says "without a lock" "disk fault (6), nothing" "$(try -e inject=flock:error=ENOLCK), $(there)"
 rm -rf new && mkdir new
 says "a full disk" "disk fault (6), nothing" "$(try -e inject=pwrite64:error=ENOSPC:when=2), $(there)"
+says "is told" 'hbpi: "g": can'"'"'t be given its size: No space left on device (os error 28)' "$(cat new/told)"
+rm -rf new && mkdir new
+says "a disk that is full later" "disk fault (6), nothing" "$(try -e inject=pwrite64:error=ENOSPC:when=9), $(there)"
 says "is told" 'hbpi: "g": a write failed: No space left on device (os error 28)' "$(cat new/told)"
+
+# in a container a process may have the number of one that was killed
+alone() {
+    (cd new && call "$@" unshare --pid --fork "$HBPI" g create 1 64 65536 6 32 </dev/null)
+}
+if unshare --pid --fork true 2>/dev/null; then
+    rm -rf new && mkdir new && echo another >new/.hbpi-new-1 && ln new/.hbpi-new-1 new/other
+    says "what another of the number has locked" "disk fault (6), beside other" "$(alone flock .hbpi-new-1), $(there)"
+    says "is told" 'hbpi: "g": can'"'"'t be made beside it, as .hbpi-new-1: another program has it' "$(cat new/told)"
+    says "what it left" "created (0), g other" "$(alone env), $(there)"
+    says "and its other name stays as it was" "another" "$(cat new/other)"
+    says "the file" "1 none/order 1 (0)" "$(again)"
+else
+    echo "     no container can be made here"
+fi
 exit $bad

@@ -20,7 +20,7 @@ says "create on a link that leads nowhere" "disk fault (6)" "$(make link)"
 hears "told" "hbpi: \"link\": can't be made: one of this name is there/"
 says "drive of it" "disk fault (6)" "$(drive link '')"
 says "create in a folder that isn't there" "disk fault (6)" "$(make none/f)"
-hears "told" "hbpi: \"none/f\": can't be made beside it, as .new-#: its folder isn't there/"
+hears "told" "hbpi: \"none/f\": can't be made beside it, as .hbpi-new-#: its folder isn't there/"
 says "create below a file" "disk fault (6)" "$(make f/g)"
 hears "told" "hbpi: \"f/g\": can't be made: Not a directory (os error 20)/"
 says "create under a name without a letter" "disk fault (6)" "$(make '')"
@@ -74,7 +74,7 @@ cp "$HBPI" program && chmod 755 program
 user=$([ "$(id -u)" = 0 ] && echo "setpriv --reuid=65534 --regid=65534 --clear-groups")
 says "create in a folder that can't be written" "disk fault (6)" \
     "$(call $user ./program shut/g create 1 64 65536 6 32 </dev/null)"
-hears "told" "hbpi: \"shut/g\": can't be made beside it, as .new-#: Permission denied (os error 13)/"
+hears "told" "hbpi: \"shut/g\": can't be made beside it, as .hbpi-new-#: Permission denied (os error 13)/"
 if [ -n "$user" ]; then
     says "drive of a file that can't be written" "disk fault (6)" "$(call $user ./program shut/f drive </dev/null)"
     hears "told" "hbpi: \"shut/f\": can't be opened for reading and writing: Permission denied (os error 13)/"

@@ -2,15 +2,15 @@
 use Rattle.std.specs.Prelude.{◌≡◌, ℕ, ◌<◌, ◌⊎◌, List, [], ◌∷◌, Option, Some}
 use Rattle.hb_space.specs.Boxes.{volume}
 use Rattle.hb_frag.specs.declared.pages.LivePage.{LivePage}
-use Rattle.hb_latch.specs.Tables.{LatchTable, KeepsFrom}
+use Rattle.hb_latch.specs.Tables.{HeldModes, KeepsFrom}
 use Rattle.hb_activity.specs.declared.wanting.Wanted.{Wanted}
 
 -- An actor waits for another one: the latch that its next step wants conflicts with one that the other holds on that
 -- page. Who waits for a lock on a box waits elsewhere: hb_boxlock has these locks.
-pub record WaitsFor (table : LatchTable) (wants : ℕ → Option Wanted) (actor other : ℕ) : Type 0 where
+pub record WaitsFor (modes : HeldModes) (wants : ℕ → Option Wanted) (actor other : ℕ) : Type 0 where
   pub wanted : Wanted
   pub wants_it : wants actor ≡ Some wanted
-  pub kept : KeepsFrom table actor wanted.page wanted.mode other
+  pub kept : KeepsFrom modes actor wanted.page wanted.mode other
 
 -- The page b comes later than the page a: its level is lower, or the level is the same and its box has fewer points.
 abbrev pub IsLater : LivePage → LivePage → Type 0

@@ -1,4 +1,4 @@
-ghost use Rattle.std.specs.Prelude.{◌≡◌, ◌↔◌, IsTrue};
+ghost use Rattle.std.specs.Prelude.{◌≡◌, ◌+◌, ◌<◌, ◌↔◌, IsTrue};
 
 use hb_space::Point;
 
@@ -31,6 +31,19 @@ impl Job {
             kind: self.kind,
             level: self.level,
             point: self.point.copy(),
+        }
+    }
+
+    /// The posting that the parent of a page owes, as a sibling leaf of the page at the point shows. The page is of the
+    /// level.
+    pub fn owed(level: u8, point: Point) -> Job
+        requires { level < 255 }
+        ensures { result ≡ record { kind = JobKind.Post; level = level + 1; point = point } }
+    {
+        Job {
+            kind: JobKind::Post,
+            level: level + 1,
+            point,
         }
     }
 

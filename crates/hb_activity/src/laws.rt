@@ -3,7 +3,7 @@
 
 ghost use Rattle.std.specs.Prelude.{◌≡◌, ◌≢◌, ◌<◌, ◌≤◌, ◌∷◌, ℕ, List, length, Option, Some};
 ghost use Rattle.hb_frag.specs.declared.pages.LivePage.{LivePage as OnePage};
-ghost use Rattle.hb_latch.specs.Tables.{LatchTable, IsGrantable, IsLeastInTheWay};
+ghost use Rattle.hb_latch.specs.Tables.{HeldModes, IsGrantable, IsLeastInTheWay};
 ghost use Rattle.hb_activity.specs.declared.wanting.Wanted.{Wanted as OneLatch};
 ghost use Rattle.hb_activity.specs.declared.activities.Activity.{Activity as Standing};
 ghost use Rattle.hb_activity.specs.Holding.{held_of};
@@ -32,13 +32,13 @@ pub fn who_may_change_is_alone()
 
 /// Whom a refused latch names, the actor waits for. Who waits for nobody may have its latch.
 pub fn refusals_are_waits()
-    ensures refused { (table : LatchTable) (wants : ℕ → Option OneLatch) (actor other : ℕ)
+    ensures refused { (modes : HeldModes) (wants : ℕ → Option OneLatch) (actor other : ℕ)
         (wanted : OneLatch) → wants actor ≡ Some wanted →
-        IsLeastInTheWay table actor wanted.page wanted.mode other → WaitsFor table wants actor other }
-    ensures granted { (table : LatchTable) (wants : ℕ → Option OneLatch) (actor : ℕ)
+        IsLeastInTheWay modes actor wanted.page wanted.mode other → WaitsFor modes wants actor other }
+    ensures granted { (modes : HeldModes) (wants : ℕ → Option OneLatch) (actor : ℕ)
         (wanted : OneLatch) → wants actor ≡ Some wanted →
-        ((other : ℕ) → ¬ (WaitsFor table wants actor other)) →
-        IsGrantable table actor wanted.page wanted.mode }
+        ((other : ℕ) → ¬ (WaitsFor modes wants actor other)) →
+        IsGrantable modes actor wanted.page wanted.mode }
 {}
 
 /// Coming later is a strict order.

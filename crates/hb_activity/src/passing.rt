@@ -62,11 +62,7 @@ impl Activity {
         ensures { MatchOption (walk_point self.now) ⊥ (λ p. result ≡ record { kind = JobKind.Post; level = level + 1; point = p }) }
     {
         match self.walk_point() {
-            Some(point) => Job {
-                kind: JobKind::Post,
-                level: level + 1,
-                point: point.copy(),
-            },
+            Some(point) => Job::owed(level, point.copy()),
             None => unreachable!(),
         }
     }

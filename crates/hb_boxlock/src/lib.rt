@@ -4,7 +4,7 @@
 //! two isn't shared, and the answer names the least such actor. Contracts see the table as a finite map
 //! from actors to locks (`specs/Locking.antt`). It doesn't show in which order the locks were taken.
 //!
-//! Invariant: there is a place for each of the 19 actors. So the table has a fixed size, and no call
+//! Invariant: there is a place for each actor. So the table has a fixed size, and no call
 //! takes memory.
 #![tactic(auto)]
 
@@ -14,4 +14,4 @@ mod tables;
 mod threads;
 
 pub use locks::BoxLock;
-pub use tables::{ACTORS, BoxLocks, HeldBy};
+pub use tables::{BoxLocks, HeldBy};

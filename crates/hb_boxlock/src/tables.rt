@@ -6,14 +6,12 @@ ghost use Rattle.hb_space.specs.Actors.{IsActor};
 ghost use Rattle.hb_boxlock.specs.Slots.{table_from};
 
 use crate::BoxLock;
+use hb_space::actors::ACTORS;
 use hb_space::{Actor, Area};
 use std::marker::Model;
 
-/// How many actors there are, each with one lock at most.
-pub const ACTORS: usize = 19;
-
 /// The locks that actors have, one at most for each.
-#[derive(Debug, Drop)]
+#[derive(Drop)]
 pub struct BoxLocks {
     // the lock of actor n stands at n - 1
     places: [Option<BoxLock>; ACTORS],
@@ -28,7 +26,7 @@ impl Model for BoxLocks {
     ghost use Rattle.std.specs.Prelude.{◌≡◌, length};
     ghost use Rattle.std.specs.FinMap as map;
     ghost use Rattle.std.specs.Ordering.{nat_cmp};
-    ghost use Rattle.hb_boxlock.specs.declared.tables.TheConstants.{ACTORS};
+    ghost use Rattle.hb_space.specs.declared.actors.TheConstants.{ACTORS};
     ghost use Rattle.hb_boxlock.specs.declared.locks.BoxLock.{BoxLock};
     ghost use Rattle.hb_boxlock.specs.Slots.{table_from};
 

@@ -7,6 +7,7 @@ ghost use Rattle.hb_ops.specs.Files.{if_live};
 ghost use Rattle.hb_view.specs.Views.{IsLive, IsLiveAnd};
 
 use crate::jobs::job;
+use crate::rows::expect;
 use crate::spelled::{bytes_of, fits_file, has_point};
 use hb_activity::{Activity, JobKind};
 use hb_frag::{Frag, Leaf, LivePage};
@@ -393,8 +394,8 @@ fn is_told(alloc: Global, spelled: &str, level: u8, height: u8, want: &str) -> O
 
 #[test]
 fn rows_of_activities(rt: HostRuntime) {
-    for &(spelled, level, height, want) in &ROWS {
+    for (place, &(spelled, level, height, want)) in ROWS.iter().enumerate() {
         let right = is_told(rt.alloc(), spelled, level, height, want);
-        assert!(rt; right == Some(true), "{spelled}");
+        expect(&rt, place, right == Some(true));
     }
 }

@@ -3,6 +3,7 @@
 ghost use Rattle.std.specs.Prelude.{◌≡◌, length, IfSome};
 ghost use Rattle.hb_boxlock.specs.Locking.{HaveAttributes};
 
+use crate::rows::expect;
 use hb_boxlock::{BoxLocks, HeldBy};
 use hb_space::{Actor, Area, Point};
 
@@ -37,7 +38,7 @@ fn take(locks: &mut BoxLocks, actor: Actor, area: Area, share: bool) -> Option<A
 
 // Two boxes of so many attributes, whether each is shared, and who is in the way of the second actor. The boxes are written as
 // their least and their greatest values.
-const PAIRS: [(
+type Pair = (
     u8,
     [u64; 4],
     [u64; 4],
@@ -46,7 +47,9 @@ const PAIRS: [(
     [u64; 4],
     bool,
     Actor,
-); 16] = [
+);
+
+const PAIRS: [Pair; 16] = [
     // two inserts of a point, two lookups, and one of each
     (
         1,
@@ -229,14 +232,18 @@ fn pair(k: u8, first: Area, share: bool, second: Area, too: bool, want: Actor) -
     Some(told == [0, want] && locks.lock_of(1).is_some() && locks.lock_of(2).is_some() == beside)
 }
 
+// Whether it is so of a row.
+fn is_pair(row: Pair) -> Option<bool> {
+    let (k, least, greatest, share, low, high, too, want) = row;
+    let first = area(k, least, greatest)?;
+    let second = area(k, low, high)?;
+    pair(k, first, share, second, too, want)
+}
+
 #[test]
 fn boxes_of_two_actors(rt: HostRuntime) {
-    for &(k, least, greatest, share, low, high, too, want) in &PAIRS {
-        let told = match (area(k, least, greatest), area(k, low, high)) {
-            (Some(first), Some(second)) => pair(k, first, share, second, too, want),
-            _ => None,
-        };
-        assert_eq!(rt; told, Some(true), "{k}");
+    for (place, row) in PAIRS.iter().enumerate() {
+        expect(&rt, place, is_pair(*row) == Some(true));
     }
 }
 
@@ -315,7 +322,7 @@ fn goes_on(locks: &mut BoxLocks, steps: &[(Actor, char, u64, u64, Actor)]) -> bo
 #[tactic(auto, using(hb_boxlock::proofs::Facts::LockedBoxes::none_locked))]
 fn steps_of_a_few_actors(rt: HostRuntime) {
     let mut locks = BoxLocks::new();
-    assert!(rt; goes_on(&mut locks, &STEPS));
+    expect(&rt, 0, goes_on(&mut locks, &STEPS));
 }
 
 // Each actor from this one on shares the whole space.
@@ -329,11 +336,16 @@ fn all_share(locks: &mut BoxLocks, actor: Actor) -> bool
     answer(locks, actor, 'S', 0, M) == Some(0) && all_share(locks, actor + 1)
 }
 
+// The first actor gives its lock back then, and wants a part of it alone.
+const LEFT: [(Actor, char, u64, u64, Actor); 2] = [(1, 'R', 0, 0, 0), (1, 'A', 3, 3, 2)];
+
 #[test]
 #[tactic(auto, using(hb_boxlock::proofs::Facts::LockedBoxes::none_locked))]
 fn nineteen_actors_share_the_space(rt: HostRuntime) {
     let mut locks = BoxLocks::new();
-    assert!(rt; all_share(&mut locks, 1));
-    assert_eq!(rt; answer(&mut locks, 1, 'R', 0, 0), Some(0));
-    assert_eq!(rt; answer(&mut locks, 1, 'A', 3, 3), Some(2));
+    expect(
+        &rt,
+        0,
+        all_share(&mut locks, 1) && goes_on(&mut locks, &LEFT),
+    );
 }

@@ -15,6 +15,7 @@ ghost use Rattle.hb_view.specs.Views.{IsLive, IsLiveAnd};
 
 use crate::activities::point;
 use crate::jobs::{job, show};
+use crate::rows::expect;
 use crate::spelled::{bytes_of, fits_file, has_point};
 use hb_activity::{Activity, Fate, Job, JobKind, Latched, Next};
 use hb_frag::{Frag, Leaf, LivePage, Node, Path, Side};
@@ -396,9 +397,9 @@ fn comes_to(alloc: Global, step: &str, name: &str, meta: &Meta, value: u32, want
 
 #[test]
 fn rows_of_deciders(rt: HostRuntime) {
-    for &(step, name, live, value, want) in &ROWS {
+    for (place, &(step, name, live, value, want)) in ROWS.iter().enumerate() {
         let right = comes_to(rt.alloc(), step, name, &meta(live), value, want);
-        assert!(rt; right, "{step} {name}: {want}");
+        expect(&rt, place, right);
     }
 }
 
@@ -414,8 +415,8 @@ fn deletes_at_a_quarter(rt: HostRuntime) {
         dcap: 8,
         ..meta(40)
     };
-    for &(name, want) in &DELETES {
+    for (place, &(name, want)) in DELETES.iter().enumerate() {
         let right = comes_to(rt.alloc(), "delete", name, &meta, 20, want);
-        assert!(rt; right, "{name}: {want}");
+        expect(&rt, place, right);
     }
 }

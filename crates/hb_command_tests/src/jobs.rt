@@ -1,5 +1,6 @@
 //! In which order jobs wait, and how many.
 
+use crate::rows::expect;
 use hb_activity::{Job, JobKind, Jobs};
 use hb_space::Point;
 use std::alloc::Global;
@@ -33,7 +34,9 @@ fn are(alloc: Global, jobs: &Jobs, want: &str) -> bool {
 
 // Whether a job is added, or else taken; its kind, its level and its value, where level 9 stands for no job that is taken; and
 // then the jobs that wait.
-const ROWS: [(bool, JobKind, u32, u32, &str); 14] = [
+type Row = (bool, JobKind, u32, u32, &'static str);
+
+const ROWS: [Row; 14] = [
     (true, JobKind::Post, 1, 50, " P1.50"),
     (true, JobKind::Merge, 1, 50, " P1.50 M1.50"),
     (true, JobKind::Post, 1, 50, " P1.50 M1.50"),
@@ -58,17 +61,31 @@ fn takes(jobs: &mut Jobs, kind: JobKind, level: u32, value: u32) -> bool {
     }
 }
 
+// Whether the step can be taken, and these jobs wait then.
+fn goes(alloc: Global, jobs: &mut Jobs, row: Row) -> bool {
+    let (adds, kind, level, value, want) = row;
+    let done = if adds {
+        jobs.add(job(kind, level, value))
+    } else {
+        takes(jobs, kind, level, value)
+    };
+    done && are(alloc, jobs, want)
+}
+
+// Whether it is so of each row. `None` where memory was refused.
+fn are_in_order(alloc: Global) -> Option<bool> {
+    let mut jobs = Jobs::new(alloc).ok()?;
+    for row in &ROWS {
+        if !goes(alloc, &mut jobs, *row) {
+            return Some(false);
+        }
+    }
+    Some(true)
+}
+
 #[test]
 fn jobs_in_order(rt: HostRuntime) {
-    let mut jobs = Jobs::new(rt.alloc()).expect(&rt, "memory");
-    for &(adds, kind, level, value, want) in &ROWS {
-        let done = if adds {
-            jobs.add(job(kind, level, value))
-        } else {
-            takes(&mut jobs, kind, level, value)
-        };
-        assert!(rt; done && are(rt.alloc(), &jobs, want), "{want}");
-    }
+    expect(&rt, 0, are_in_order(rt.alloc()) == Some(true));
 }
 
 // As many jobs as may wait.
@@ -80,16 +97,35 @@ fn most(alloc: Global) -> Option<Jobs> {
     Some(jobs)
 }
 
+// A kind and a value, and whether the job is added then, or else whether it is the next one that is taken; behind as many jobs as
+// may wait.
+const MORE: [(bool, JobKind, u32, bool); 5] = [
+    (true, JobKind::Merge, 0, false),
+    (true, JobKind::Post, 255, true),
+    (false, JobKind::Post, 0, true),
+    (true, JobKind::Post, 256, true),
+    (true, JobKind::Post, 0, false),
+];
+
+// Whether it is so of each row, and how many jobs of each kind wait.
+fn is_full(alloc: Global) -> Option<(bool, [usize; 2])> {
+    let mut jobs = most(alloc)?;
+    let mut is_so = true;
+    for &(adds, kind, value, want) in &MORE {
+        let done = if adds {
+            jobs.add(job(kind, 0, value))
+        } else {
+            takes(&mut jobs, kind, 0, value)
+        };
+        is_so = is_so && done == want;
+    }
+    Some((
+        is_so,
+        [jobs.count(JobKind::Post), jobs.count(JobKind::Merge)],
+    ))
+}
+
 #[test]
 fn one_job_too_many(rt: HostRuntime) {
-    let mut jobs = most(rt.alloc()).expect(&rt, "memory");
-    assert!(rt; !jobs.add(job(JobKind::Merge, 0, 0)));
-    assert!(rt; jobs.add(job(JobKind::Post, 0, 255)));
-    assert_eq!(rt;
-        [jobs.count(JobKind::Post), jobs.count(JobKind::Merge)],
-        [256, 0]
-    );
-    assert!(rt; takes(&mut jobs, JobKind::Post, 0, 0));
-    assert!(rt; jobs.add(job(JobKind::Post, 0, 256)));
-    assert!(rt; !jobs.add(job(JobKind::Post, 0, 0)));
+    expect(&rt, 0, is_full(rt.alloc()) == Some((true, [256, 0])));
 }

@@ -1,5 +1,6 @@
 //! Latches by hand: pairs of modes, and steps of a few actors.
 
+use crate::rows::expect;
 use Mode::{Exclusive, Shared, Update};
 use hb_latch::{HeldBy, LATCHES, Latches, Mode};
 use hb_space::Actor;
@@ -91,12 +92,12 @@ const STEPS: [(Actor, char, u32, Actor); 28] = [
 #[test]
 fn steps_of_actors(rt: HostRuntime) {
     let mut latches = Latches::new();
-    for &(actor, step, page, want) in &STEPS {
+    for (place, &(actor, step, page, want)) in STEPS.iter().enumerate() {
         if step == '.' {
             latches = Latches::new();
         } else {
             let told = answer(&mut latches, actor, step, page);
-            assert_eq!(rt; told, Some(want), "{actor} {step} {page}");
+            expect(&rt, place, told == Some(want));
         }
     }
 }
@@ -136,8 +137,8 @@ fn go_so(first: char, second: char, want: Actor) -> Option<bool> {
 
 #[test]
 fn modes_of_two_actors(rt: HostRuntime) {
-    for &(first, second, want) in &PAIRS {
-        assert_eq!(rt; go_so(first, second, want), Some(true), "{first} {second}");
+    for (place, &(first, second, want)) in PAIRS.iter().enumerate() {
+        expect(&rt, place, go_so(first, second, want) == Some(true));
     }
 }
 
@@ -164,14 +165,23 @@ fn all_hold(latches: &Latches) -> bool {
     true
 }
 
+// Whether that comes of three pages, and what the first actor's steps at one of them are answered then.
+fn three_held(latches: &mut Latches) -> Option<[Actor; 2]> {
+    for page in [30, 10, 20] {
+        if !all_take(latches, page) {
+            return None;
+        }
+    }
+    if !all_hold(latches) {
+        return None;
+    }
+    Some([answer(latches, 1, 'R', 10)?, answer(latches, 1, 'X', 10)?])
+}
+
 #[test]
 fn three_latches_of_each_actor(rt: HostRuntime) {
     let mut latches = Latches::new();
-    for &page in &[30, 10, 20] {
-        assert!(rt; all_take(&mut latches, page), "{page}");
-    }
-    assert!(rt; all_hold(&latches));
-    assert_eq!(rt; answer(&mut latches, 1, 'R', 10), Some(0));
-    assert_eq!(rt; answer(&mut latches, 1, 'X', 10), Some(2));
-    assert_eq!(rt; [latches.count(1), latches.count(2)], [2, LATCHES]);
+    let told = three_held(&mut latches);
+    let counts = [latches.count(1), latches.count(2)];
+    expect(&rt, 0, told == Some([0, 2]) && counts == [2, LATCHES]);
 }

@@ -1,5 +1,5 @@
-//! The tests of hb_set, hb_text, hb_latch, hb_boxlock, hb_activity, hb_point, hb_search, hb_poster and hb_consol: sets of records,
-//! texts and outputs, latches, locks on boxes, activities, jobs and deciders by hand.
+//! The tests of hb_set, hb_text, hb_gen, hb_latch, hb_boxlock, hb_activity, hb_point, hb_search, hb_poster and hb_consol: sets of
+//! records, texts and outputs, latches, locks on boxes, activities, jobs and deciders by hand.
 //!
 //! They stand in a crate of their own, since a crate with tests is proved twice. No contract is here.
 #![tactic(auto)]
@@ -11,6 +11,8 @@ mod boxes_locked;
 #[cfg(test)]
 mod deciders;
 #[cfg(test)]
+mod generated;
+#[cfg(test)]
 mod jobs;
 #[cfg(test)]
 mod latches;
@@ -20,6 +22,8 @@ mod mergers;
 mod outputs;
 #[cfg(test)]
 mod plain_list;
+#[cfg(test)]
+mod rows;
 #[cfg(test)]
 mod scripts;
 #[cfg(test)]

@@ -6,6 +6,7 @@ ghost use Rattle.hb_ops.specs.Sound.{FitsFile};
 
 use crate::deciders::{cut_at, fits, is_inside, meta, records, show_op};
 use crate::jobs::{job, show};
+use crate::rows::expect;
 use hb_activity::{Activity, Job, JobKind, Latched, Next};
 use hb_frag::{Frag, Leaf, LivePage};
 use hb_layout::Meta;
@@ -185,13 +186,12 @@ fn comes_to(alloc: Global, step: &str, meta: &Meta, want: &str) -> bool {
 
 #[test]
 fn rows_of_the_consolidator(rt: HostRuntime) {
-    for &(step, dcap, icap, want) in &ROWS {
+    for (place, &(step, dcap, icap, want)) in ROWS.iter().enumerate() {
         let meta = Meta {
             dcap,
             icap,
             ..meta(40)
         };
-        let right = comes_to(rt.alloc(), step, &meta, want);
-        assert!(rt; right, "{step} {dcap} {icap}: {want}");
+        expect(&rt, place, comes_to(rt.alloc(), step, &meta, want));
     }
 }

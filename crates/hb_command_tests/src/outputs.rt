@@ -1,5 +1,6 @@
 //! Replies, lines that have none, and orders, as text, and where a sink fails. Where something is `None`, memory was refused.
 
+use crate::rows::expect;
 use hb_outside::MemSink;
 use hb_set::Reply;
 use hb_space::{Body, Point, Record, Records};
@@ -77,9 +78,9 @@ fn says_reply(alloc: Global, word: &str, failing: u64, want: &str, whole: bool) 
 
 #[test]
 fn replies(rt: HostRuntime) {
-    for &(word, failing, want, whole) in &REPLIES {
+    for (place, &(word, failing, want, whole)) in REPLIES.iter().enumerate() {
         let right = says_reply(rt.alloc(), word, failing, want, whole);
-        assert!(rt; right == Some(true), "{want}");
+        expect(&rt, place, right == Some(true));
     }
 }
 
@@ -128,8 +129,8 @@ fn says_body(alloc: Global, bytes: &[u8], want: &str) -> Option<bool> {
 
 #[test]
 fn bodies(rt: HostRuntime) {
-    for &(bytes, want) in &BODIES {
-        assert!(rt; says_body(rt.alloc(), bytes, want) == Some(true), "{want}");
+    for (place, &(bytes, want)) in BODIES.iter().enumerate() {
+        expect(&rt, place, says_body(rt.alloc(), bytes, want) == Some(true));
     }
 }
 
@@ -152,11 +153,9 @@ fn says_order(alloc: Global, order: &[u32], settled: u32, want: &str) -> Option<
 
 #[test]
 fn orders(rt: HostRuntime) {
-    for &(order, settled, want) in &ORDERS {
-        assert!(rt;
-            says_order(rt.alloc(), order, settled, want) == Some(true),
-            "{want}"
-        );
+    for (place, &(order, settled, want)) in ORDERS.iter().enumerate() {
+        let right = says_order(rt.alloc(), order, settled, want);
+        expect(&rt, place, right == Some(true));
     }
 }
 
@@ -170,7 +169,7 @@ fn length_of_forty(alloc: Global) -> Option<(usize, u64)> {
 // Fifteen numbers of ten digits fill a put, so forty take three.
 #[test]
 fn long_order(rt: HostRuntime) {
-    assert_eq!(rt; length_of_forty(rt.alloc()), Some((446, 3)));
+    expect(&rt, 0, length_of_forty(rt.alloc()) == Some((446, 3)));
 }
 
 /// Whether this is said of two lines that have no reply.
@@ -184,5 +183,5 @@ fn says_left(alloc: Global, want: &[u8]) -> Option<bool> {
 #[test]
 fn left_lines(rt: HostRuntime) {
     let want = b"3 unanswered\n4294967295 unfinished\n";
-    assert!(rt; says_left(rt.alloc(), want) == Some(true));
+    expect(&rt, 0, says_left(rt.alloc(), want) == Some(true));
 }

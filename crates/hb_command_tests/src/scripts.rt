@@ -1,6 +1,7 @@
 //! Texts by hand: what is read of them, and the first line that breaks a rule.
 
-use hb_set::{Command, Line, Script};
+use crate::rows::expect;
+use hb_set::{Command, Line};
 use hb_space::Attributes;
 use hb_text::{NumberFault, TextError, TextRule, read_commands, read_number};
 use std::alloc::Global;
@@ -28,8 +29,8 @@ const NUMBERS: [(&str, Result<u64, NumberFault>); 14] = [
 
 #[test]
 fn number_words(rt: HostRuntime) {
-    for &(word, want) in &NUMBERS {
-        assert_eq!(rt; read_number(word.as_bytes()), want, "{word}");
+    for (place, &(word, want)) in NUMBERS.iter().enumerate() {
+        expect(&rt, place, read_number(word.as_bytes()) == want);
     }
 }
 
@@ -160,9 +161,9 @@ const TEXTS: [(u8, bool, &str, Outcome); 60] = [
 
 #[test]
 fn texts_are_read(rt: HostRuntime) {
-    for &(attributes, step_lines, text, want) in &TEXTS {
+    for (place, &(attributes, step_lines, text, want)) in TEXTS.iter().enumerate() {
         let got = answer_to(rt.alloc(), attributes, step_lines, text.as_bytes());
-        assert_eq!(rt; got, Some(want), "{text}");
+        expect(&rt, place, got == Some(want));
     }
 }
 
@@ -185,12 +186,9 @@ fn answer_to_long(alloc: Global, byte: u8, count: usize) -> Option<Outcome> {
 
 #[test]
 fn limits(rt: HostRuntime) {
-    for &(byte, count, want) in &LONG {
-        assert_eq!(rt;
-            answer_to_long(rt.alloc(), byte, count),
-            Some(want),
-            "{count}"
-        );
+    for (place, &(byte, count, want)) in LONG.iter().enumerate() {
+        let got = answer_to_long(rt.alloc(), byte, count);
+        expect(&rt, place, got == Some(want));
     }
 }
 
@@ -215,8 +213,8 @@ const STEPS: [(&str, &[u8]); 4] = [
 
 #[test]
 fn steps_are_read(rt: HostRuntime) {
-    for &(text, steps) in &STEPS {
-        assert!(rt; has_steps(rt.alloc(), text, steps), "{text}");
+    for (place, &(text, steps)) in STEPS.iter().enumerate() {
+        expect(&rt, place, has_steps(rt.alloc(), text, steps));
     }
 }
 
@@ -225,7 +223,16 @@ const SCRIPT: &[u8] =
     b"1 insert 18446744073709551615 0 =x=\n\n16 delete 1 2\n2 search 1 2 3 3\n9 lookup 3 4";
 
 /// Its lines: the number, the session, and the command's word, its values, the upper values of a search, and its body.
-const LINES: [(u32, u8, &str, &[u64], &[u64], &[u8]); 4] = [
+type LineTold = (
+    u32,
+    u8,
+    &'static str,
+    &'static [u64],
+    &'static [u64],
+    &'static [u8],
+);
+
+const LINES: [LineTold; 4] = [
     (1, 1, "insert", &[u64::MAX, 0], &[], b"x="),
     (3, 16, "delete", &[1, 2], &[], b""),
     (4, 2, "search", &[1, 3], &[2, 3], b""),
@@ -242,29 +249,27 @@ fn told(command: &Command) -> (&str, &[u64], &[u64], &[u8]) {
     }
 }
 
-/// Whether the line at a place of a script is so.
-fn has_line(
-    script: &Script,
-    place: usize,
-    number: u32,
-    session: u8,
-    command: (&str, &[u64], &[u64], &[u8]),
-) -> bool {
-    let Some(line) = script.lines.as_slice().get(place) else {
+/// Whether a line is so.
+fn is_so(line: &Line, row: &LineTold) -> bool {
+    let (number, session, verb, lo, hi, body) = *row;
+    line.number == number && line.session == session && told(&line.command) == (verb, lo, hi, body)
+}
+
+/// Whether these lines are read.
+fn has_lines(alloc: Global, rows: &[LineTold]) -> bool {
+    let Ok(script) = read_commands(alloc, SCRIPT, Attributes { number: 2 }, false) else {
         return false;
     };
-    line.number == number && line.session == session && told(&line.command) == command
+    let lines = script.lines.as_slice();
+    for (line, row) in lines.iter().zip(rows) {
+        if !is_so(line, row) {
+            return false;
+        }
+    }
+    lines.len() == rows.len()
 }
 
 #[test]
 fn a_script_is_read(rt: HostRuntime) {
-    let Ok(script) = read_commands(rt.alloc(), SCRIPT, Attributes { number: 2 }, false) else {
-        panic!(rt; "no script");
-    };
-    assert_eq!(rt; script.lines.as_slice().len(), 4);
-    for (place, row) in LINES.iter().enumerate() {
-        let (number, session, verb, lo, hi, body) = *row;
-        let right = has_line(&script, place, number, session, (verb, lo, hi, body));
-        assert!(rt; right, "{number}");
-    }
+    expect(&rt, 0, has_lines(rt.alloc(), &LINES));
 }

@@ -5,6 +5,7 @@ ghost use Rattle.std.specs.Prelude.{IsTrue, IfSome};
 ghost use Rattle.hb_search.specs.Searching.{MaySearch, StaysGathering};
 
 use crate::deciders::{fits, is_inside};
+use crate::rows::expect;
 use hb_activity::{Activity, Latched};
 use hb_frag::{Frag, Leaf, LivePage};
 use hb_ops::Meta;
@@ -284,8 +285,8 @@ fn comes_to(alloc: Global, k: u8, asked: Option<Area>, want: &str) -> bool {
 
 #[test]
 fn searches_over_three_pages(rt: HostRuntime) {
-    for &(k, least, greatest, want) in &ROWS {
+    for (place, &(k, least, greatest, want)) in ROWS.iter().enumerate() {
         let right = comes_to(rt.alloc(), k, area(k, least, greatest), want);
-        assert!(rt; right, "{k}: {want}");
+        expect(&rt, place, right);
     }
 }

@@ -3,6 +3,7 @@
 
 ghost use Rattle.hb_set.specs.Machine.{HasAttributes};
 
+use crate::rows::expect;
 use hb_set::{Command, Reply, Set};
 use hb_space::form::{BMAX, KMAX};
 use hb_space::{Area, Body, NoMemory, Point, Record};
@@ -222,26 +223,32 @@ const FOUR: [(&str, &str); 7] = [
     ("delete 4,3,2,1", "absent"),
 ];
 
-/// How many records there are behind these commands to an empty set, or the place of the first one that has another reply.
-fn answered(alloc: Global, attributes: usize, rows: &[(&str, &str)]) -> Result<usize, usize> {
-    let Ok(mut trial) = Trial::new(alloc, attributes) else {
-        return Err(0);
-    };
+/// A number of attributes, commands and their replies, and how many records there are behind these.
+const TABLES: [(usize, &[(&str, &str)], usize); 4] = [
+    (1, &ONE, 3),
+    (2, &TWO, 4),
+    (3, &THREE, 2),
+    (4, &FOUR, 1),
+];
+
+/// How many records there are behind these commands to an empty set. `None` where one has another reply.
+fn answered(alloc: Global, attributes: usize, rows: &[(&str, &str)]) -> Option<usize> {
+    let mut trial = Trial::new(alloc, attributes).ok()?;
     if !trial.set.is_empty() {
-        return Err(0);
+        return None;
     }
-    for (place, (line, reply)) in rows.iter().enumerate() {
+    for (line, reply) in rows {
         if !trial.is_told(line, reply) {
-            return Err(place);
+            return None;
         }
     }
-    Ok(trial.set.len())
+    Some(trial.set.len())
 }
 
 #[test]
 fn commands_are_answered(rt: HostRuntime) {
-    assert_eq!(rt; answered(rt.alloc(), 1, &ONE), Ok(3));
-    assert_eq!(rt; answered(rt.alloc(), 2, &TWO), Ok(4));
-    assert_eq!(rt; answered(rt.alloc(), 3, &THREE), Ok(2));
-    assert_eq!(rt; answered(rt.alloc(), 4, &FOUR), Ok(1));
+    for (place, &(attributes, rows, count)) in TABLES.iter().enumerate() {
+        let left = answered(rt.alloc(), attributes, rows);
+        expect(&rt, place, left == Some(count));
+    }
 }

@@ -1,5 +1,5 @@
 -- The rows of the consolidator at a parent that it has for itself. The page of a row is the one that the step latches.
-use Rattle.std.specs.Prelude.{◌≡◌, ◌⊎◌, ℕ, ◌+◌, ◌<◌, if◌then◌else◌, List, [], ◌∷◌, Option, Some, None, ◌*◌, nat_le}
+use Rattle.std.specs.Prelude.{◌≡◌, ◌⊎◌, ℕ, ◌+◌, ◌<◌, if◌then◌else◌, List, [], ◌∷◌, Option, Some, None}
 use Rattle.hb_frag.specs.declared.pages.LivePage.{LivePage}
 use Rattle.hb_terms.specs.declared.merging.MergePlan.{MergePlan}
 use Rattle.hb_terms.specs.declared.merging.MergePlan.TheVariants as plans
@@ -9,6 +9,7 @@ use Rattle.hb_activity.specs.declared.activities.Activity.TheVariants.{Consolida
 use Rattle.hb_activity.specs.Deeds.{Deed, moves_to, does}
 use Rattle.hb_activity.specs.Sights.{Sight}
 use Rattle.hb_frag.specs.Leaves.{first_named, siblings_of, weight_of}
+use Rattle.hb_frag.specs.Rules.{is_thin}
 use Rattle.hb_ops.specs.declared.operations.Op.TheVariants as ops
 use Rattle.hb_ops.specs.Merging.{parent_page}
 use Rattle.hb_activity.specs.declared.activities.Activity.TheVariants as at
@@ -24,10 +25,10 @@ after_keep job parent keep gone (Some area) = moves_to (ConsolidatorDecide job p
 abbrev pub takes_keep : Job → ℕ → ℕ → ℕ → LivePage → Deed
 takes_keep job parent keep gone page = after_keep job parent keep gone (first_named gone (siblings_of page))
 
--- Deciding, with all three alone: the plan is made anew. Where the two may become one they do, and the job waits again. A
--- parent that weighs a quarter of its capacity then, or less, is thin.
+-- Deciding, with all three alone: the plan is made anew. Where the two may become one they do, and the job waits again. So
+-- does a job for the parent, where that is thin then.
 abbrev pub merges_above : Job → LivePage → ℕ → List Job
-merges_above job parent capacity = if nat_le (4 * weight_of parent.frag) capacity then record { kind = kinds.Merge; level = job.level + 1; point = job.point } ∷ [] else []
+merges_above job parent capacity = if is_thin (weight_of parent.frag) capacity then record { kind = kinds.Merge; level = job.level + 1; point = job.point } ∷ [] else []
 
 -- The two become one.
 pub record Merges (s : Sight) (job : Job) (parent keep gone : ℕ) (above : LivePage) (deed : Deed) : Type 0 where

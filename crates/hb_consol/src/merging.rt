@@ -2,7 +2,6 @@
 
 ghost use Rattle.std.specs.Prelude.{◌≡◌, ◌⊎◌, ◌<◌, ◌+◌, ◌≤◌, ◌^◌, length, IfOk, OnErr, Option, ℕ, List};
 ghost use Rattle.hb_frag.specs.Leaves.{WellCut, leaves};
-ghost use Rattle.hb_frag.specs.Rules.{capacity_of};
 ghost use Rattle.hb_activity.specs.Deciding.{deed_of, given_sight};
 ghost use Rattle.hb_activity.specs.declared.activities.Activity.{Activity as OneActivity};
 ghost use Rattle.hb_consol.specs.Asks.{MergesTwo};
@@ -15,7 +14,7 @@ ghost use Rattle.hb_terms.specs.declared.merging.MergePlan.{MergePlan as OnePlan
 use crate::pairs::Pair;
 use crate::scanning::tries;
 use hb_activity::{Activity, Job, JobKind, Next};
-use hb_frag::LivePage;
+use hb_frag::{LivePage, capacity_of};
 use hb_layout::Meta;
 use hb_ops::{Op, parent_after};
 use hb_space::NoMemory;
@@ -83,15 +82,14 @@ pub(crate) fn decide(alloc: Global, job: Job, pair: &Pair<'_>) -> Result<Next, N
     }
 }
 
-// The two become one, and the job waits again. A parent that weighs a quarter of its capacity then, or
-// less, is to be merged itself.
+// The two become one, and the job waits again. A parent that is thin then is to be merged itself.
 fn merge(alloc: Global, job: Job, pair: &Pair<'_>) -> Result<Next, NoMemory>
     requires live { 0 < pair.now.meta.now.live }
     requires low { job.level < 255 }
     ensures { IfOk result (λ next. (state : OneActivity) (pages : List (ℕ × OnePage)) (free : Option (ℕ × ℕ)) → Merges (given_sight pair.now.meta.now pages free) job pair.now.parent pair.now.keep pair.now.gone pair.now.above.now (deed_of state next)) }
 {
     let after = parent_after(alloc, pair.above, pair.keep, pair.gone)?;
-    let thin = after.weighs_at_most(pair.meta.icap / 4);
+    let thin = after.is_thin(pair.meta.icap);
     let owed = Job {
         kind: JobKind::Merge,
         level: job.level + 1,
@@ -113,17 +111,6 @@ fn merge(alloc: Global, job: Job, pair: &Pair<'_>) -> Result<Next, NoMemory>
 fn plan_for(pair: &Pair<'_>) -> MergePlan
     ensures { PlansMerge pair.now.meta.now pair.now.gone pair.now.above.now pair.now.kept.now pair.now.page.now result }
 {
-    let most = capacity(pair.page, pair.meta);
+    let most = capacity_of(pair.page.level, pair.meta.dcap, pair.meta.icap);
     merge_plan(pair.above, pair.kept, pair.gone, pair.page, most)
-}
-
-// What a page of this level may weigh.
-fn capacity(page: &LivePage, meta: &Meta) -> u16
-    ensures { result ≡ capacity_of page.now.level meta.now.dcap meta.now.icap }
-{
-    if page.level == 0 {
-        meta.dcap
-    } else {
-        meta.icap
-    }
 }

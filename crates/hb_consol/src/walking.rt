@@ -12,7 +12,7 @@ ghost use Rattle.hb_consol.specs.MergeRows.{ConsolidatorRow};
 
 use crate::children::first_child;
 use crate::scanning::scans;
-use hb_activity::{Activity, Job, JobKind, Next};
+use hb_activity::{Activity, Job, Next};
 use hb_frag::{Leaf, LivePage};
 use hb_space::NoMemory;
 
@@ -39,11 +39,7 @@ pub(crate) fn walk(job: Job, id: u32, page: &LivePage) -> Result<Next, NoMemory>
             }
         }
         (Leaf::Sibling(_), _) => {
-            let owed = Job {
-                kind: JobKind::Post,
-                level: page.level + 1,
-                point: job.point.copy(),
-            };
+            let owed = Job::owed(page.level, job.point.copy());
             Ok(Next::adds(onward(job, id), owed))
         }
         (Leaf::Records(_), _) => unreachable!(),

@@ -1,7 +1,5 @@
 -- What other crates cite of the core: what one step tells, what many steps come to, and a core that has taken none.
-pub mod PrefixImages
-pub mod LogAndStop
-pub mod GivenUpLaws
+pub mod Names
 pub mod AnswersGiven
 pub mod LinesLeft
 pub mod RunFaults
@@ -11,12 +9,5 @@ pub mod RunSteps
 pub mod BegunCores
 pub mod RunLines
 pub mod CountsKept
-pub mod NoDamage
-pub mod StillThere
-pub mod NextLines
 pub mod BetweenCalls
-pub mod EachRow
-pub mod StepKinds
-pub mod StepLines
-pub mod Ways
-pub mod LaterPages
+pub mod SettledPlaces

@@ -1,13 +1,3 @@
-pub mod Table
-pub mod Memory
-pub mod Latches
-pub mod Walks
-pub mod Room
-pub mod Files
-pub mod Orders
-pub mod TwoSteps
 pub mod Machines
-pub mod Chains
-pub mod Searches
 pub mod Running
 pub mod Facts

@@ -1,3 +1,4 @@
+pub mod Names
 pub mod NumbersInHand
 pub mod TurnsAfter
 pub mod StandsElsewhere

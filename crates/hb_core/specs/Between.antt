@@ -19,11 +19,11 @@ use Rattle.hb_store.specs.declared.stops.Why.TheVariants.{Rule}
 use Rattle.hb_store.specs.declared.stops.WriteFault.{WriteFault}
 use Rattle.hb_core.specs.declared.copies.CopyStop.{CopyStop}
 use Rattle.hb_core.specs.declared.copies.CopyStop.TheVariants as copies
-use Rattle.hb_core.specs.declared.outcomes.Outcome.{Outcome}
-use Rattle.hb_core.specs.declared.outcomes.Outcome.TheVariants as outcomes
+use Rattle.hb_steps.specs.declared.outcomes.Outcome.{Outcome}
+use Rattle.hb_steps.specs.declared.outcomes.Outcome.TheVariants as outcomes
 use Rattle.hb_core.specs.CoreUpdates.{with_jobs, with_stop}
-use Rattle.hb_core.specs.Fetching.{Brings, IsBadRead}
-use Rattle.hb_core.specs.Machines.{Machine, current_file, stopped_for, with_disk, with_uses}
+use Rattle.hb_steps.specs.Fetching.{Brings, IsBadRead}
+use Rattle.hb_steps.specs.Machines.{Machine, current_file, stopped_for, with_disk, with_uses}
 use Rattle.hb_core.specs.Showing.{RunningCore}
 
 -- ---- a job

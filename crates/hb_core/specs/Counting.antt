@@ -6,7 +6,7 @@ use Rattle.hb_store.specs.States.{StoreState}
 use Rattle.hb_core.specs.Counts.{counted}
 use Rattle.hb_outside.specs.Memory.{next_count}
 use Rattle.hb_core.specs.CoreUpdates.{with_order_of_use, with_store}
-use Rattle.hb_core.specs.Performing.{DoesOp}
+use Rattle.hb_steps.specs.Performing.{DoesOp}
 use Rattle.hb_core.specs.Showing.{RunningCore}
 
 -- no count changed

@@ -1,5 +1,6 @@
 -- The operations that a core counts, by their kinds.
 use Rattle.std.specs.Prelude.{ℕ, ◌==◌, if◌then◌else◌, Option, Some, None}
+use Rattle.hb_space.specs.declared.actors.TheConstants.{POSTER}
 use Rattle.hb_ops.specs.declared.operations.Op.{Op}
 use Rattle.hb_ops.specs.declared.operations.Op.TheVariants as ops
 use Rattle.hb_core.specs.declared.counts.TidyCounts.{TidyCounts}
@@ -14,7 +15,7 @@ no_counts = record { grown = 0; posted = 0; split = 0; merged = 0 }
 abbrev pub counted : ℕ → Op → TidyCounts → TidyCounts
 counted actor (ops.Put page rec) c = c
 counted actor (ops.Del page point) c = c
-counted actor (ops.Extract source fresh path cuts free_after) c = if actor == 17 then record c { split = next_count c.split } else c
+counted actor (ops.Extract source fresh path cuts free_after) c = if actor == POSTER then record c { split = next_count c.split } else c
 counted actor (ops.Post parent way inner area) c = record c { posted = next_count c.posted }
 counted actor (ops.Merge parent keep gone) c = record c { merged = next_count c.merged }
 counted actor (ops.Grow fresh free_after) c = record c { grown = next_count c.grown }

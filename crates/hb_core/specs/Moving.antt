@@ -1,7 +1,7 @@
 -- What the private calls of a core make of it, said of what it holds.
 use Rattle.hb_activity.specs.declared.jobs.Job.{Job}
 use Rattle.hb_activity.specs.Queue.{AddsJobs}
-use Rattle.std.specs.Prelude.{◌≡◌, ◌≢◌, ℕ, ◌≤◌, AllPairs, List, [], ◌∷◌, ◌++◌, length, false, Option, Some, None, IsSome, option_map}
+use Rattle.std.specs.Prelude.{◌≡◌, ℕ, ◌≤◌, List, [], ◌∷◌, ◌++◌, length, false, Option, Some, None, IsSome, option_map}
 use Rattle.std.specs.Option.{option_and_then}
 use Rattle.hb_latch.specs.declared.modes.Mode.{Mode}
 use Rattle.hb_activity.specs.declared.activities.Activity.{Activity}
@@ -12,41 +12,37 @@ use Rattle.hb_activity.specs.declared.deciding.Fate.TheVariants as fates
 use Rattle.hb_activity.specs.Classes.{Hand, line_of}
 use Rattle.hb_activity.specs.Deeds.{Deed}
 use Rattle.hb_activity.specs.Walks.{walk_held}
-use Rattle.hb_latch.specs.Tables.{IsGrantable, LatchTable}
+use Rattle.hb_latch.specs.Tables.{HeldModes, IsGrantable}
 use Rattle.hb_space.specs.Actors.{IsActor}
 use Rattle.hb_ops.specs.declared.operations.Op.{Op}
 use Rattle.hb_set.specs.Order.{Entry}
 use Rattle.hb_store.specs.Calls.{StaysHere}
-use Rattle.hb_core.specs.Using.{is_changed, pages_of, use_done, use_held}
+use Rattle.hb_steps.specs.Using.{is_changed, pages_of, use_done, use_held}
 use Rattle.hb_store.specs.Held.{IsTied}
 use Rattle.hb_store.specs.States.{StoreState, in_memory}
-use Rattle.hb_core.specs.declared.outcomes.Outcome.{Outcome}
-use Rattle.hb_core.specs.declared.outcomes.Outcome.TheVariants as outcomes
+use Rattle.hb_steps.specs.declared.outcomes.Outcome.{Outcome}
+use Rattle.hb_steps.specs.declared.outcomes.Outcome.TheVariants as outcomes
 pub use Rattle.hb_core.specs.Committing.{KeepsFilesBy, MayCommit, later_with}
 pub use Rattle.hb_core.specs.CoreUpdates.{StandsAs, with_counts, with_jobs, with_latches, with_order, with_order_of_use, with_standing, with_stop, with_store}
 use Rattle.hb_core.specs.Counts.{counted_by}
-use Rattle.hb_core.specs.Machines.{live_here}
-use Rattle.hb_core.specs.Performing.{ChangesQueue, MayDo, Relatches, latches_held, mode_among, outcome_of}
+use Rattle.hb_steps.specs.Machines.{AreApart, live_here}
+use Rattle.hb_steps.specs.Performing.{ChangesQueue, MayDo, Relatches, latches_held, mode_among, outcome_of}
 use Rattle.hb_core.specs.Showing.{RunningCore}
 
--- latches on different pages
-abbrev pub AreApart : List Latch → Type 0
-AreApart latches = AllPairs (λ (l : Latch) (m : Latch). l.page ≢ m.page) latches
-
 -- An actor may have these latches: they are two at most, on different pages, and nobody is in the way.
-pub record MayHave (who : ℕ) (table : LatchTable) (latches : List Latch) : Type 0 where
+pub record MayHave (who : ℕ) (modes : HeldModes) (latches : List Latch) : Type 0 where
   pub actor : IsActor who
   pub few : length latches ≤ 2
   pub apart : AreApart latches
-  pub free : (page : ℕ) (mode : Mode) → mode_among page latches ≡ Some mode → IsGrantable table who page mode
+  pub free : (page : ℕ) (mode : Mode) → mode_among page latches ≡ Some mode → IsGrantable modes who page mode
 
 -- An actor may stand so, with its latches among these: nobody is in the way of them, they are on different pages, and the page that
 -- a walk holds is in memory and in use.
-pub record MayStand (actor : ℕ) (table : LatchTable) (st : StoreState) (activity : Activity) : Type 0 where
+pub record MayStand (actor : ℕ) (modes : HeldModes) (st : StoreState) (activity : Activity) : Type 0 where
   pub latches : IsActor actor
   pub walks : IsSome (walk_held activity) → IsSome (option_and_then (live_here st) (walk_held activity))
   pub apart : AreApart (latches_held st activity)
-  pub free : (page : ℕ) (mode : Mode) → mode_among page (latches_held st activity) ≡ Some mode → IsGrantable table actor page mode
+  pub free : (page : ℕ) (mode : Mode) → mode_among page (latches_held st activity) ≡ Some mode → IsGrantable modes actor page mode
 
 -- Jobs join the queue. All else is as it was.
 pub record Queues (jobs : List Job) (old new : RunningCore) : Type 0 where

@@ -1,6 +1,6 @@
 -- Whether the pins of an actor can go over from pages to others.
 use Rattle.std.specs.Prelude.{ℕ, ◌<◌, List, [], ◌∷◌, IsSomeAnd}
-use Rattle.hb_core.specs.Using.{unpin_each}
+use Rattle.hb_steps.specs.Using.{unpin_each}
 use Rattle.hb_pool.specs.Frames.{Use, pinned, unpinned}
 use Rattle.hb_pool.specs.Pools.{frame_of, in_place, put_last}
 

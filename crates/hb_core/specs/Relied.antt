@@ -1,4 +1,4 @@
--- What the calls of a core rely on; of the private calls of a step a record for each, which also says that the actor is one of the 19.
+-- What the calls of a core rely on; of the private calls of a step a record for each, which also says that the number is an actor's.
 use Rattle.std.specs.Prelude.{◌≡◌, ℕ, ◌-◌, ◌≤◌, All, length, Option, Some, None, IsSome}
 use Rattle.std.specs.List.{slice_get}
 use Rattle.hb_disk.specs.Model.{DiskModel}
@@ -8,14 +8,15 @@ use Rattle.hb_activity.specs.declared.activities.Activity.{Activity}
 use Rattle.hb_activity.specs.declared.activities.Activity.TheVariants as at
 use Rattle.hb_activity.specs.declared.wanting.Wanted.{Wanted}
 use Rattle.hb_store.specs.States.{in_memory}
-use Rattle.hb_core.specs.Asking.{wanted_by}
+use Rattle.hb_steps.specs.Asking.{wanted_by}
 use Rattle.hb_core.specs.CoreUpdates.{StandsAs}
-use Rattle.hb_core.specs.KeptFits.{LineFits}
-use Rattle.hb_core.specs.Looking.{MayLook}
-use Rattle.hb_core.specs.Machines.{Machine}
+use Rattle.hb_steps.specs.KeptFits.{LineFits}
+use Rattle.hb_steps.specs.Looking.{MayLook}
+use Rattle.hb_steps.specs.Machines.{Machine}
 use Rattle.hb_core.specs.Showing.{RunningCore}
 use Rattle.hb_core.specs.Taking.{HaveBoxes}
-use Rattle.hb_core.specs.Working.{HasCome, HasPages, IsWorking, MayStep, MayWork}
+use Rattle.hb_core.specs.Going.{IsWorking, MayWork}
+use Rattle.hb_core.specs.Working.{HasCome, HasPages, MayStep}
 
 -- the core shows a machine that may take steps; or one that may and isn't stopped
 abbrev pub MayTakeSteps : DiskModel → RunningCore → Type 0

@@ -15,16 +15,16 @@ use Rattle.hb_store.specs.declared.stops.StopWhy.{StopWhy}
 use Rattle.hb_store.specs.declared.stops.StopWhy.TheVariants as stops
 use Rattle.hb_store.specs.Keeps.{PartsOpen}
 use Rattle.hb_store.specs.States.{StoreState}
-use Rattle.hb_core.specs.FileLaws.{FilesStaySound}
-use Rattle.hb_core.specs.KeepingLaws.{StepsKeepAll}
-use Rattle.hb_core.specs.KeptMachine.{CoreKeeps}
-use Rattle.hb_core.specs.KeptOrder.{StandsInOrder}
-use Rattle.hb_core.specs.MachineLaws.{MachineStaysKept}
-use Rattle.hb_core.specs.Machines.{Files, Machine}
-use Rattle.hb_core.specs.MomentLaws.{ImagesHavePrefixes, IsPrefixImage}
+use Rattle.hb_steps.specs.FileLaws.{FilesStaySound}
+use Rattle.hb_steps.specs.KeepingLaws.{StepsKeepAll}
+use Rattle.hb_steps.specs.KeptMachine.{CoreKeeps}
+use Rattle.hb_steps.specs.KeptOrder.{StandsInOrder}
+use Rattle.hb_steps.specs.MachineLaws.{MachineStaysKept}
+use Rattle.hb_steps.specs.Machines.{Files, Machine}
+use Rattle.hb_steps.specs.MomentLaws.{ImagesHavePrefixes, IsPrefixImage}
 use Rattle.hb_core.specs.Showing.{RunningCore, ShowsMachine}
-use Rattle.hb_core.specs.Steps.{StepsInSequence}
-use Rattle.hb_core.specs.Working.{MayGoOn}
+use Rattle.hb_steps.specs.Steps.{StepsInSequence}
+use Rattle.hb_core.specs.Going.{MayGoOn}
 
 -- Since the answer every image has a prefix of the order that holds it, where it stands in the order.
 abbrev pub HoldsSince : DiskModel → RecordSet → List Entry → Answered → Type 0

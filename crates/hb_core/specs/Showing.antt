@@ -1,8 +1,9 @@
 -- When a core over a disk shows a machine, and when a machine is reached.
 use Rattle.std.specs.Prelude.{◌≡◌, ◌≢◌, ◌⊎◌, ℕ, ◌-◌, ◌≤◌, All, List, map, take, drop, length, Option, Some, None, IsSome}
 use Rattle.std.specs.List.{slice_get}
+use Rattle.hb_space.specs.declared.actors.TheConstants.{SESSIONS, ACTORS}
 use Rattle.hb_disk.specs.Model.{DiskModel}
-use Rattle.hb_latch.specs.Tables.{LatchTable}
+use Rattle.hb_latch.specs.Tables.{LatchTable, mode_at}
 use Rattle.hb_space.specs.Actors.{IsActor}
 use Rattle.hb_set.specs.declared.scripts.Line.{Line}
 use Rattle.hb_activity.specs.declared.jobs.Job.{Job}
@@ -13,9 +14,9 @@ use Rattle.hb_pool.specs.Frames.{Use}
 use Rattle.hb_store.specs.States.{StoreState}
 use Rattle.hb_store.specs.declared.stops.StopWhy.{StopWhy}
 use Rattle.hb_core.specs.declared.counts.TidyCounts.{TidyCounts}
-use Rattle.hb_core.specs.Keeps.{HasNobodyElse}
-use Rattle.hb_core.specs.KeptSequence.{HasAnswer}
-use Rattle.hb_core.specs.Machines.{Files, Machine}
+use Rattle.hb_steps.specs.Keeps.{HasNobodyElse}
+use Rattle.hb_steps.specs.KeptSequence.{HasAnswer}
+use Rattle.hb_steps.specs.Machines.{Files, Machine, modes}
 
 -- What a core holds. It has no replies of the order, no answers and no files: these are in the machines that it shows.
 pub record RunningCore : Type 0 where
@@ -25,7 +26,7 @@ pub record RunningCore : Type 0 where
   -- how many of the lines lie behind each session, session 1 first: all that it took, and those of others between them;
   -- or all, once none of its own was left
   pub behind : List ℕ
-  -- where the 19 actors stand, actor 1 first
+  -- where the actors stand, actor 1 first
   pub activities : List Activity
   pub latches : LatchTable
   pub jobs : List Job
@@ -70,12 +71,13 @@ pub record ShowsFiles (d : DiskModel) (m : Machine) : Type 0 where
 -- A core over a disk shows a machine: all that it holds is the machine's.
 pub record ShowsMachine (d : DiskModel) (c : RunningCore) (m : Machine) : Type 0 where
   pub lines : m.lines ≡ c.lines
-  pub sessions : length c.behind ≡ 16
-  pub turns : (session behind : ℕ) → 1 ≤ session → session ≤ 16 → slice_get c.behind (session - 1) ≡ Some behind → HasTurn m session behind
-  pub all_actors : length c.activities ≡ 19
+  pub sessions : length c.behind ≡ SESSIONS
+  pub turns : (session behind : ℕ) → 1 ≤ session → session ≤ SESSIONS → slice_get c.behind (session - 1) ≡ Some behind → HasTurn m session behind
+  pub all_actors : length c.activities ≡ ACTORS
   pub activities : (actor : ℕ) → IsActor actor → slice_get c.activities (actor - 1) ≡ Some (m.activity actor)
   pub nobody_else : HasNobodyElse m
-  pub latches : m.latches ≡ c.latches
+  -- the table of latches answers as the activities say
+  pub latches : modes m ≡ mode_at c.latches
   pub jobs : m.jobs ≡ c.jobs
   pub order : map (λ e. e.line.number) m.order ≡ c.order
   pub stop : m.stop ≡ c.stop

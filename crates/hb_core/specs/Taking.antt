@@ -1,14 +1,13 @@
 -- How an idle actor of a core takes a line or a job, and a core that has taken no step.
-use Rattle.std.specs.Prelude.{◌≡◌, ◌≢◌, ◌⊎◌, ℕ, Result, IfOk, IfErr, ◌-◌, ◌+◌, All, List, [], ◌∷◌, ◌++◌, length, take, drop, replicate, Some, None, is_some, if◌then◌else◌, ◌<◌, IfSome, IsSomeAnd}
+use Rattle.std.specs.Prelude.{◌≡◌, ◌≢◌, ◌⊎◌, ℕ, Result, IfOk, IfErr, ◌-◌, ◌+◌, All, List, [], ◌∷◌, ◌++◌, length, take, drop, replicate, Some, None, ◌<◌, IfSome, IsSomeAnd}
 use Rattle.std.specs.List.{slice_get, slice_set}
 use Rattle.std.specs.FinMap as map
+use Rattle.hb_space.specs.declared.actors.TheConstants.{SESSIONS}
 use Rattle.hb_activity.specs.declared.activities.Activity.{Activity}
 use Rattle.hb_activity.specs.declared.activities.Activity.TheVariants as at
 use Rattle.hb_boxlock.specs.declared.locks.BoxLock.{BoxLock}
 use Rattle.hb_activity.specs.declared.jobs.Job.{Job}
-use Rattle.hb_activity.specs.declared.jobs.JobKind.{JobKind}
 use Rattle.hb_activity.specs.BoxLocks.{lock_of, lock_of_command}
-use Rattle.hb_activity.specs.Classes.{job_in_work}
 use Rattle.hb_activity.specs.declared.jobs.JobKind.TheVariants.{Post, Merge}
 use Rattle.hb_activity.specs.Deeds.{takes_job}
 use Rattle.hb_point.specs.SessionRows.{WantsBoxes, boxes_ahead}
@@ -18,12 +17,12 @@ use Rattle.hb_set.specs.declared.commands.Reply.TheVariants as replies
 use Rattle.hb_set.specs.declared.scripts.Line.{Line}
 use Rattle.hb_pool.specs.Frames.{Use}
 use Rattle.hb_store.specs.States.{StoreState}
-use Rattle.hb_core.specs.declared.outcomes.Outcome.{Outcome}
-use Rattle.hb_core.specs.declared.outcomes.Outcome.TheVariants as outcomes
+use Rattle.hb_steps.specs.declared.outcomes.Outcome.{Outcome}
+use Rattle.hb_steps.specs.declared.outcomes.Outcome.TheVariants as outcomes
 use Rattle.hb_boxlock.specs.Locking.{Excludes}
 use Rattle.hb_core.specs.Counts.{no_counts}
 use Rattle.hb_core.specs.Moving.{DoesDeed, with_standing}
-use Rattle.hb_core.specs.Performing.{Relatches}
+use Rattle.hb_steps.specs.Performing.{Relatches}
 use Rattle.hb_core.specs.Showing.{RunningCore}
 
 -- At a place of the activities, actor 1 first, another actor stands whose lock excludes this one; it is the first such; there is none.
@@ -84,23 +83,15 @@ TakesNextMerging actor outcome old new =
     ((outcome ≡ outcomes.Idle) × (new ≡ old) × All (λ (job : Job). job.kind ≢ Merge) old.jobs)
     ⊎ ((job : Job) × (next : Activity) × (job.kind ≡ Merge) × IsMergingOf job old.store.meta.height next × DoesDeed actor [] (takes_job next job) outcome old new)
 
--- who works off the jobs of a kind, and how many an actor has in work
-abbrev pub worker_for : JobKind → ℕ
-worker_for Post = 17
-worker_for Merge = 18
-
-abbrev pub jobs_in_work : Activity → ℕ
-jobs_in_work activity = if is_some (job_in_work activity) then 1 else 0
-
 -- all actors with nothing in hand, and a core that has taken no step
 abbrev pub all_idle : List Activity
-all_idle = replicate 16 at.SessionIdle ++ at.PosterIdle ∷ at.ConsolidatorIdle ∷ at.Flusher ∷ []
+all_idle = replicate SESSIONS at.SessionIdle ++ at.PosterIdle ∷ at.ConsolidatorIdle ∷ at.Flusher ∷ []
 
 abbrev pub begun_core : List Line → List ℕ → StoreState → List Use → RunningCore
 begun_core lines steps store uses = record {
   lines = lines;
   steps = steps;
-  behind = replicate 16 0;
+  behind = replicate SESSIONS 0;
   activities = all_idle;
   latches = map.empty;
   jobs = [];

@@ -1,5 +1,5 @@
 -- What a step does to the disk.
-use Rattle.hb_core.specs.Machines.{Machine}
+use Rattle.hb_steps.specs.Machines.{Machine}
 use Rattle.hb_core.specs.Working.{MayStep}
 use Rattle.std.specs.Prelude.{◌≡◌, ◌⊎◌, ◌↔◌, ◌<◌, ℕ, [], None, Some, Result, IsErr}
 use Rattle.hb_disk.specs.Calls.{ReadsOnly}
@@ -14,8 +14,8 @@ use Rattle.hb_store.specs.Switching.{SwitchesTurn}
 use Rattle.hb_store.specs.WritingHome.{WritesHome}
 use Rattle.hb_core.specs.declared.halts.Halt.{Halt}
 use Rattle.hb_core.specs.declared.halts.Halt.TheVariants.{GivesUp, Stops}
-use Rattle.hb_core.specs.declared.outcomes.Outcome.{Outcome}
-use Rattle.hb_core.specs.declared.outcomes.Outcome.TheVariants as outcomes
+use Rattle.hb_steps.specs.declared.outcomes.Outcome.{Outcome}
+use Rattle.hb_steps.specs.declared.outcomes.Outcome.TheVariants as outcomes
 use Rattle.hb_core.specs.Counting.{CountsNoOp}
 use Rattle.hb_core.specs.Showing.{RunningCore}
 

@@ -5,59 +5,27 @@ use Rattle.hb_activity.specs.declared.activities.Activity.{Activity}
 use Rattle.hb_activity.specs.declared.activities.Activity.TheVariants as at
 use Rattle.hb_frag.specs.declared.pages.LivePage.{LivePage}
 use Rattle.hb_store.specs.declared.stops.StopWhy.TheVariants.{Damaged, WriteFault}
-use Rattle.hb_core.specs.Using.{CameFor, use_number, use_wanted}
+use Rattle.hb_steps.specs.Using.{CameFor, use_number, use_wanted}
 use Rattle.hb_pool.specs.Frames.{Use}
 use Rattle.hb_store.specs.Fetching.{use_numbered}
 use Rattle.hb_store.specs.Held.{IsTied}
 use Rattle.hb_store.specs.States.{StoreState}
 use Rattle.hb_core.specs.declared.halts.Halt.{Halt}
 use Rattle.hb_core.specs.declared.halts.Halt.TheVariants.{GivesUp, Stops}
-use Rattle.hb_core.specs.Acting.{GivesUpFor, IsBadWanted, MayNeed, NeedsNumber}
-use Rattle.hb_core.specs.Asking.{HasWayFree, asked_box, wanted_by}
-use Rattle.hb_core.specs.Fetching.{Brings, IsBadHead, IsFreeHead, IsWantedPage}
-use Rattle.hb_core.specs.KeptMachine.{MachineKeeps}
-use Rattle.hb_core.specs.Keeps.{HasSoundFile}
-use Rattle.hb_core.specs.Machines.{Machine, next_of, with_disk, with_uses}
+use Rattle.hb_steps.specs.Acting.{GivesUpFor, IsBadWanted, MayNeed, NeedsNumber}
+use Rattle.hb_steps.specs.Asking.{HasWayFree, asked_box, wanted_by}
+use Rattle.hb_steps.specs.Fetching.{Brings, IsBadHead, IsFreeHead, IsWantedPage}
+use Rattle.hb_core.specs.Going.{MayGoOn, MayWork}
+use Rattle.hb_steps.specs.Machines.{Machine, next_of, with_disk, with_uses}
 use Rattle.hb_core.specs.Moving.{with_standing}
-use Rattle.hb_core.specs.Rows.{IsAtHand}
+use Rattle.hb_steps.specs.Rows.{IsAtHand}
 use Rattle.hb_core.specs.Showing.{RunningCore, ShowsMachine}
-use Rattle.hb_core.specs.Steps.{IsUnready}
-
--- What is known of a machine of which a core takes a step: it keeps what every machine keeps, and its files are sound.
-pub record MayGoOn (m : Machine) : Type 0 where
-  pub kept : MachineKeeps m
-  pub sound : IfSome m.files (HasSoundFile m)
+use Rattle.hb_steps.specs.Steps.{IsUnready}
 
 -- A core over a disk shows such a machine.
 pub record MayStep (d : DiskModel) (c : RunningCore) (m : Machine) : Type 0 where
   pub shows : ShowsMachine d c m
   pub goes_on : MayGoOn m
-
--- the activities that want a latch or change the file
-abbrev pub IsWorking : Activity → Type 0
-IsWorking (at.SessionWalk line held rest found) = Unit {0}
-IsWorking (at.SessionSplit line held) = Unit {0}
-IsWorking (at.SessionPut line source fresh) = Unit {0}
-IsWorking (at.PosterGrow job) = Unit {0}
-IsWorking (at.PosterWalk job held) = Unit {0}
-IsWorking (at.PosterChild job parent) = Unit {0}
-IsWorking (at.PosterPromote job parent) = Unit {0}
-IsWorking (at.PosterAgain job parent) = Unit {0}
-IsWorking (at.ConsolidatorWalk job held) = Unit {0}
-IsWorking (at.ConsolidatorScan job parent child) = Unit {0}
-IsWorking (at.ConsolidatorTry job parent keep gone leaf) = Unit {0}
-IsWorking (at.ConsolidatorPromote job parent keep gone) = Unit {0}
-IsWorking (at.ConsolidatorKeep job parent keep gone) = Unit {0}
-IsWorking (at.ConsolidatorDecide job parent keep gone) = Unit {0}
-IsWorking other = ⊥
-
--- Such a step may be done: the machine runs, nobody is in the way, and the log is ready for a change, where one may come.
-pub record MayWork (m : Machine) (actor : ℕ) : Type 0 where
-  pub goes_on : MayGoOn m
-  pub runs : m.stop ≡ None
-  pub working : IsWorking (m.activity actor)
-  pub free : HasWayFree m actor
-  pub ready : ¬ (IsUnready m actor)
 
 -- the machine with the pages that a core has in memory now
 abbrev pub with_memory : RunningCore → Machine → Machine

@@ -5,13 +5,13 @@ ghost use Rattle.hb_layout.specs.Limits.{IsLayout};
 ghost use Rattle.hb_ops.specs.Files.{if_live};
 ghost use Rattle.hb_store.specs.declared.stops.Why.TheVariants.{Extent};
 ghost use Rattle.hb_view.specs.Views.{IsLive, IsLiveAnd};
-ghost use Rattle.hb_core.specs.AskedBoxes.{HasAskedBox, HasItsBox, IsNotAsked};
-ghost use Rattle.hb_core.specs.Asking.{asked_box, box_at, looked_live, looked_page, whole_box};
+ghost use Rattle.hb_steps.specs.AskedBoxes.{HasAskedBox, HasItsBox, IsNotAsked};
+ghost use Rattle.hb_steps.specs.Asking.{asked_box, box_at, looked_live, looked_page, whole_box};
 ghost use Rattle.hb_core.specs.CoreSeen.{core_seen};
-ghost use Rattle.hb_core.specs.Looking.{FailsTest, IsOfOtherLevel, MayLook, PassesTest, wanted_in};
-ghost use Rattle.hb_core.specs.Machines.{live_here};
+ghost use Rattle.hb_steps.specs.Looking.{FailsTest, IsOfOtherLevel, MayLook, PassesTest, wanted_in};
+ghost use Rattle.hb_steps.specs.Machines.{live_here};
 ghost use Rattle.hb_core.specs.Moving.{StandsAs};
-ghost use Rattle.hb_core.specs.Working.{IsWorking};
+ghost use Rattle.hb_core.specs.Going.{IsWorking};
 ghost use Rattle.hb_core.specs.Relied.{MayLookFor, MayTest};
 
 use crate::leaf_boxes::box_by_leaf;
@@ -20,37 +20,9 @@ use hb_activity::{Activity, Wanted};
 use hb_disk::Device;
 use hb_layout::Meta;
 use hb_space::{Actor, Area, Point};
+use hb_steps::{AskedBox, BoxTest};
 use hb_store::Why;
 use hb_view::PageView;
-
-/// How the box of a page is compared with the one that is asked for.
-#[derive(Clone, Copy, Debug)]
-pub(crate) enum BoxTest {
-    /// It is that very box.
-    Exactly,
-    /// It has that box within it.
-    Around,
-}
-
-/// The box of a page that is asked for: this one, or one that has it within.
-#[derive(Debug, Drop)]
-pub(crate) struct AskedBox {
-    pub(crate) area: Area,
-    pub(crate) test: BoxTest,
-}
-
-impl AskedBox {
-    /// Whether a page of this box is the one.
-    fn is_of(&self, area: &Area) -> bool
-        requires { length self.now.area.lo ≡ length area.now.lo }
-        ensures { IsTrue result ↔ HasAskedBox self.now area.now }
-    {
-        match self.test {
-            BoxTest::Exactly => *area == self.area,
-            BoxTest::Around => self.area.within(area),
-        }
-    }
-}
 
 impl<D: Device> Core<D> {
     /// The latch that the actor's next step wants.

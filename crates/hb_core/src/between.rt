@@ -7,15 +7,16 @@ ghost use Rattle.hb_store.specs.Replaying.{IsPageOf};
 ghost use Rattle.hb_store.specs.States.{in_memory};
 ghost use Rattle.hb_store.specs.WritingHome.{IsDue};
 ghost use Rattle.hb_store.specs.declared.stops.StopWhy.TheVariants as stops;
+ghost use Rattle.hb_space.specs.declared.actors.TheConstants.{FLUSHER};
 ghost use Rattle.hb_activity.specs.declared.waiting_jobs.TheConstants.{JOBS};
 ghost use Rattle.hb_core.specs.declared.copies.CopyStop.TheVariants as copies;
 ghost use Rattle.hb_core.specs.Between.{AddsToQueue, CopiesPage, FailsToLook, IsNotCopied, LetsWait, said_of_flush};
 ghost use Rattle.hb_core.specs.CoreSeen.{core_seen, core_disk, Alters};
 ghost use Rattle.hb_core.specs.Counting.{CountsFlush, CountsStay};
-ghost use Rattle.hb_core.specs.KeptFits.{JobFits};
-ghost use Rattle.hb_core.specs.Machines.{Machine};
+ghost use Rattle.hb_steps.specs.KeptFits.{JobFits};
+ghost use Rattle.hb_steps.specs.Machines.{Machine};
 ghost use Rattle.hb_core.specs.Showing.{ShowsMachine};
-ghost use Rattle.hb_core.specs.Steps.{StepsTo};
+ghost use Rattle.hb_steps.specs.Steps.{StepsTo};
 ghost use Rattle.hb_core.specs.Touching.{Touches, held_in};
 ghost use Rattle.hb_core.specs.Relied.{MayRun};
 ghost use Rattle.hb_core.specs.Working.{MayStep};
@@ -57,7 +58,7 @@ impl<D: Device> Core<D> {
     {
         match self.store.fetch(id) {
             Ok(()) => {
-                let _ = self.store.meta();
+                self.store.stands_well();
                 self.copy_here(id)
             }
             Err(stop) => Err(self.fails_to_look(stop)),
@@ -99,7 +100,7 @@ impl<D: Device> Core<D> {
         requires { MayRun (D.model (core_disk self.old)) (core_seen self.old) }
         ensures which { IfOk result (IsDue (held_in (core_seen self.old))) }
         ensures steps { (m : Machine) → MayStep (D.model (core_disk self.old)) (core_seen self.old) m →
-            (new : Machine) × StepsTo m 19 (said_of_flush result) new × ShowsMachine (D.model (core_disk self.new)) (core_seen self.new) new }
+            (new : Machine) × StepsTo m FLUSHER (said_of_flush result) new × ShowsMachine (D.model (core_disk self.new)) (core_seen self.new) new }
         ensures touches { Touches (D.model (core_disk self.old)) (core_seen self.old) (said_of_flush result) (D.model (core_disk self.new)) (core_seen self.new) }
         ensures stop { OnErr result ((core_seen self.new).stop ≡ Some stops.WriteFault) }
         ensures counts { CountsFlush (core_seen self.old) (core_seen self.new) }

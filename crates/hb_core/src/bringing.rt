@@ -4,13 +4,14 @@ ghost use Rattle.hb_core.specs.CoreSeen.{core_seen, core_disk, ChangesBy};
 ghost use Rattle.hb_store.specs.declared.stops.StopWhy.TheVariants.{Damaged};
 ghost use Rattle.hb_store.specs.declared.stops.Why.{Why};
 ghost use Rattle.hb_core.specs.declared.halts.Halt.TheVariants.{Stops};
-ghost use Rattle.hb_core.specs.Looking.{FailsTest, PassesTest};
+ghost use Rattle.hb_steps.specs.Looking.{FailsTest, PassesTest};
 ghost use Rattle.hb_core.specs.Counting.{OnlyBrings};
-ghost use Rattle.hb_core.specs.Machines.{Machine, live_here};
+ghost use Rattle.hb_steps.specs.Machines.{Machine, live_here};
 ghost use Rattle.hb_core.specs.Moving.{StandsAs, placed, with_standing};
 ghost use Rattle.hb_disk.specs.Calls.{ReadsOnly};
 ghost use Rattle.hb_core.specs.Touching.{IsReadHalt};
-ghost use Rattle.hb_core.specs.Working.{Halts, HaltsPinned, HasCome, HasPages, MayStep, MayWork, with_memory};
+ghost use Rattle.hb_core.specs.Going.{MayWork};
+ghost use Rattle.hb_core.specs.Working.{Halts, HaltsPinned, HasCome, HasPages, MayStep, with_memory};
 ghost use Rattle.hb_core.specs.Relied.{MayDecide, MayDoRow, MayNumber, MayTest};
 
 use crate::halts::{Halt, halt_of};
@@ -39,7 +40,7 @@ impl<D: Device> Core<D> {
         match self.store.fetch(wanted.page) {
             Ok(()) => {
                 self.store.pin(wanted.page);
-                let _ = self.store.meta();
+                self.store.stands_well();
                 match self.tested(actor, wanted) {
                     Ok(()) => Ok(()),
                     Err(halt) => {
@@ -90,7 +91,7 @@ impl<D: Device> Core<D> {
             Err(refused) => return Err(Halt::from(refused)),
         }
         let next = self.store.next_page();
-        let _ = self.store.meta();
+        self.store.stands_well();
         match next {
             Ok(next) => Ok(next),
             Err(stop) => Err(halt_of(stop)),

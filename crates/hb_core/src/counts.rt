@@ -2,10 +2,11 @@
 ghost use Rattle.std.specs.Prelude.{◌≡◌, ◌==◌, if◌then◌else◌};
 ghost use Rattle.hb_core.specs.Counts.{counted, no_counts};
 ghost use Rattle.hb_outside.specs.Memory.{next_count};
+ghost use Rattle.hb_space.specs.declared.actors.TheConstants.{POSTER};
 
-use crate::state::POSTER;
 use hb_ops::Op;
 use hb_space::Actor;
+use hb_space::actors::POSTER;
 
 /// How many operations of these kinds a core has done. Each count stands still at its last value.
 #[derive(Clone, Copy, Debug, PartialEq, Eq)]
@@ -69,7 +70,7 @@ impl TidyCounts {
     }
 
     fn with_split(self, actor: Actor) -> TidyCounts
-        ensures { result ≡ (if actor == 17 then record self { split = next_count self.split } else self) }
+        ensures { result ≡ (if actor == POSTER then record self { split = next_count self.split } else self) }
     {
         if actor != POSTER {
             return self;

@@ -5,25 +5,26 @@ ghost use Rattle.hb_activity.specs.Classes.{idle_of};
 ghost use Rattle.hb_activity.specs.Walks.{IsSessionWalk, walk_point};
 ghost use Rattle.hb_ops.specs.Files.{if_live};
 ghost use Rattle.hb_space.specs.Points.{IsPoint};
-ghost use Rattle.hb_core.specs.Acting.{Decodes, NeedsNumber};
-ghost use Rattle.hb_core.specs.Asking.{wanted_by};
-ghost use Rattle.hb_core.specs.AskingDeciders.{AsksNumber, AsksPoint, AsksPoster, AsksSearcher, DecodesNow, GathersAt, HasPointRow, HasPosterRow, HasSearchRow, SplitLacksPage, MakesPageAt, WalksToSearch};
+ghost use Rattle.hb_steps.specs.Acting.{Decodes, NeedsNumber};
+ghost use Rattle.hb_steps.specs.Asking.{wanted_by};
+ghost use Rattle.hb_steps.specs.AskingDeciders.{AsksNumber, AsksPoint, AsksPoster, AsksSearcher, DecodesNow, GathersAt, HasPointRow, HasPosterRow, HasSearchRow, SplitLacksPage, MakesPageAt, WalksToSearch};
 ghost use Rattle.hb_core.specs.CoreSeen.{core_seen, core_disk, ChangesBy};
-ghost use Rattle.hb_core.specs.KeptFits.{class_for};
-ghost use Rattle.hb_core.specs.Looking.{number_of_row, other_number, other_page};
-ghost use Rattle.hb_core.specs.LookingToMerge.{AsksMerger, HasMergerRow, second_number, second_page};
-ghost use Rattle.hb_core.specs.Machines.{Machine, live_here};
+ghost use Rattle.hb_steps.specs.KeptFits.{class_for};
+ghost use Rattle.hb_steps.specs.Looking.{number_of_row, other_number, other_page};
+ghost use Rattle.hb_steps.specs.LookingToMerge.{AsksMerger, HasMergerRow, second_number, second_page};
+ghost use Rattle.hb_steps.specs.Machines.{Machine, live_here};
 ghost use Rattle.hb_core.specs.Moving.{placed, with_standing};
 ghost use Rattle.hb_core.specs.Relied.{MayDecide, MayNumber};
-ghost use Rattle.hb_core.specs.Rows.{Row};
+ghost use Rattle.hb_steps.specs.Rows.{Row};
 ghost use Rattle.hb_core.specs.Working.{HasCome, HasPages, with_memory};
 
 use crate::reading::idle;
-use crate::state::{CONSOLIDATOR, Core, POSTER};
+use crate::state::Core;
 use hb_activity::{Activity, Latched, Next, Wanted};
 use hb_disk::Device;
 use hb_frag::{LivePage, Page};
 use hb_set::{Command, Reply};
+use hb_space::actors::{CONSOLIDATOR, POSTER};
 use hb_space::{Actor, NoMemory};
 
 impl<D: Device> Core<D> {

@@ -10,7 +10,7 @@ use hb_space::NoMemory;
 use hb_store::{FetchStop, StopWhy, Why};
 
 /// Why a step that may be done comes to no row.
-#[derive(Debug, Drop)]
+#[derive(Drop)]
 pub(crate) enum Halt {
     /// What the actor has in hand is given up.
     GivesUp(DropWhy),

@@ -3,14 +3,14 @@ ghost use Rattle.std.specs.Prelude.{◌≡◌, IfSome};
 ghost use Rattle.hb_frag.specs.Leaves.{WellCut};
 ghost use Rattle.hb_ops.specs.Files.{if_live};
 ghost use Rattle.hb_view.specs.Views.{IsLiveAnd};
-ghost use Rattle.hb_core.specs.Asking.{box_by_view, box_of_child, box_of_place, box_of_sibling};
+ghost use Rattle.hb_steps.specs.Asking.{box_by_view, box_of_child, box_of_place, box_of_sibling};
 ghost use Rattle.hb_core.specs.CoreSeen.{core_seen};
-ghost use Rattle.hb_core.specs.Machines.{live_here};
+ghost use Rattle.hb_steps.specs.Machines.{live_here};
 
-use crate::asking::{AskedBox, BoxTest};
 use crate::state::Core;
 use hb_disk::Device;
 use hb_space::Area;
+use hb_steps::{AskedBox, BoxTest};
 use hb_view::{LeafView, PageView};
 
 impl<D: Device> Core<D> {

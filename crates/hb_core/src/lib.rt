@@ -1,54 +1,36 @@
-//! The step machine: what one step of an actor does, as one relation over states that are data, and
-//! the laws that each step keeps. Sessions, the worker that posts, the one that merges and the one that
-//! flushes take their steps in any order.
+//! The core: it takes one step of any actor over a store. What a step is says hb_steps; this crate's code takes it, and its
+//! definitions say what a core shows of the machine of which that speaks.
 //!
-//! The one contract: a step is one of the table. The table is `StepsTo` of `specs/Steps.antt`, with a
-//! record for each row in the files of `specs/` whose names end in `Rows`. What follows of it is
-//! in `laws`, what it does to the file, its contents and the order in `file_laws`, and what it keeps over
-//! any disk in `machine_laws`. `docs/STEPS.md` tells every row in words.
+//! The one contract: each call of `Core::step` is a step of the table (`StepsTo` of hb_steps), of each machine that the core
+//! shows (`ShowsMachine`). Between two steps a caller may let a job wait, look at a page, and flush (`specs/Between.antt`).
 //!
-//! No type keeps an invariant. What every machine keeps is in `specs/KeptMachine.antt`, of parts in the
-//! files beside it, a record for each.
+//! Invariants: none is kept by a type. `MayStep` (`specs/Working.antt`) says what a caller has, and each call leaves.
 //!
-//! Source of the idea: Lomet and Salzberg 1992, whose structure changes are atomic actions that are
-//! completed late, and Evangelidis, Lomet and Salzberg 1997.
+//! Source of the idea: Lomet and Salzberg 1992, and Evangelidis, Lomet and Salzberg 1997.
 #![tactic(auto)]
 
-pub mod asked_laws;
 mod asking;
 mod between;
 pub mod between_laws;
 mod bringing;
-pub mod cause_laws;
 mod copies;
 mod counts;
 mod deciding;
 mod endings;
-pub mod examples;
-pub mod file_laws;
-pub mod frame_laws;
 mod halts;
-pub mod keeping_laws;
-pub mod laws;
 mod leaf_boxes;
 mod locking;
-pub mod machine_laws;
-pub mod outcome_laws;
-mod outcomes;
 mod performing;
-pub mod progress_laws;
 mod reading;
 pub mod run_laws;
 mod state;
 mod stepping;
 mod threads;
-pub mod waiting_laws;
 mod working;
-pub mod written_chains;
 
 pub use copies::CopyStop;
 pub use counts::TidyCounts;
 pub use endings::{End, Ran};
 pub use hb_activity::DropWhy;
-pub use outcomes::Outcome;
+pub use hb_steps::Outcome;
 pub use state::Core;

@@ -2,6 +2,7 @@
 ghost use Rattle.std.specs.Prelude.{◌≡◌, ◌↔◌, ◌≢◌, ◌+◌, length, None, IfSome, IsTrue, IsSomeAnd};
 ghost use Rattle.hb_activity.specs.BoxLocks.{lock_of};
 ghost use Rattle.hb_boxlock.specs.Locking.{Excludes};
+ghost use Rattle.hb_space.specs.declared.actors.TheConstants.{ACTORS};
 ghost use Rattle.hb_core.specs.Taking.{HaveBoxes, IsFirstAgainst, NoneAgainst};
 
 use hb_activity::Activity;
@@ -10,7 +11,7 @@ use hb_space::Actor;
 
 /// The least other actor whose lock excludes this one, where actor 1 stands first. `None` where no other actor's lock does.
 pub(crate) fn first_against(activities: &[Activity], actor: Actor, lock: &BoxLock) -> Option<Actor>
-    requires few { length activities.now ≡ 19 }
+    requires few { length activities.now ≡ ACTORS }
     requires boxes { HaveBoxes (length lock.now.area.lo) activities.now }
     ensures free { result ≡ None → NoneAgainst activities.now actor lock.now }
     ensures least { IfSome result (IsFirstAgainst activities.now actor lock.now) }

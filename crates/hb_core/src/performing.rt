@@ -16,19 +16,18 @@ ghost use Rattle.hb_core.specs.declared.halts.Halt.TheVariants as halts;
 ghost use Rattle.hb_activity.specs.declared.dropping.DropWhy.TheVariants as drops;
 ghost use Rattle.hb_core.specs.CoreSeen.{core_seen, core_disk, Alters, ChangesBy};
 ghost use Rattle.hb_core.specs.Counts.{counted_by};
-ghost use Rattle.hb_core.specs.GivingUp.{gives_up, reply_for};
-ghost use Rattle.hb_core.specs.KeptFits.{class_for};
-ghost use Rattle.hb_core.specs.Machines.{live_here};
+ghost use Rattle.hb_steps.specs.GivingUp.{gives_up, reply_for};
+ghost use Rattle.hb_steps.specs.KeptFits.{class_for};
+ghost use Rattle.hb_steps.specs.Machines.{AreApart, live_here};
 ghost use Rattle.std.specs.Option.{option_to_list};
-ghost use Rattle.hb_core.specs.Moving.{AreApart, DoesDeed, KeepsFilesBy, KeepsStaying, MayCommit, MayHave, MayStand, Queues, StandsFree, StandsNow, StandsAs, joins_order, number_of, placed, placed_at, said, with_counts, with_jobs, with_latches, with_order, with_order_of_use, with_store};
-ghost use Rattle.hb_core.specs.Performing.{MayDo, Relatches, latches_held, mode_among};
+ghost use Rattle.hb_core.specs.Moving.{DoesDeed, KeepsFilesBy, KeepsStaying, MayCommit, MayHave, MayStand, Queues, StandsFree, StandsNow, StandsAs, joins_order, number_of, placed, placed_at, said, with_counts, with_jobs, with_latches, with_order, with_order_of_use, with_store};
+ghost use Rattle.hb_steps.specs.Performing.{MayDo, Relatches, latches_held, mode_among};
 ghost use Rattle.hb_core.specs.Pinning.{CanMovePins, CanPin, CanUnpin};
-ghost use Rattle.hb_core.specs.Using.{pages_of, pin_each, unpin_each, use_done};
-ghost use Rattle.hb_core.specs.Working.{IsWorking};
+ghost use Rattle.hb_steps.specs.Using.{pages_of, pin_each, unpin_each, use_done};
+ghost use Rattle.hb_core.specs.Going.{IsWorking};
 
 use crate::counts::TidyCounts;
 use crate::halts::Halt;
-use crate::outcomes::Outcome;
 use crate::reading::idle;
 use crate::state::Core;
 use arrayvec::ArrayVec;
@@ -39,6 +38,7 @@ use hb_latch::laws::{each_call_changes_one_latch, each_latch_counts_once};
 use hb_ops::Op;
 use hb_set::Reply;
 use hb_space::{Actor, NoMemory};
+use hb_steps::Outcome;
 use hb_view::PageView;
 
 impl<D: Device> Core<D> {
@@ -53,7 +53,7 @@ impl<D: Device> Core<D> {
     ) -> Result<Outcome, Halt>
         requires commit { IfSome next.op (MayCommit (D.model (core_disk self.old)) (core_seen self.old)) }
         requires stand { (st : StoreState) → MayDo next.op (length (core_seen self.old).order) (core_seen self.old).store st →
-            MayStand actor (core_seen self.old).latches st (placed_at (length (core_seen self.old).order) next.then) }
+            MayStand actor (mode_at (core_seen self.old).latches) st (placed_at (length (core_seen self.old).order) next.then) }
         requires room { IsSome (joins_order line next.then next.fate) → length (core_seen self.old).order < length (core_seen self.old).lines }
         requires few { length (core_seen self.old).order < 2 ^ 32 }
         requires hold { (st : StoreState) → MayDo next.op (length (core_seen self.old).order) (core_seen self.old).store st →
@@ -76,7 +76,7 @@ impl<D: Device> Core<D> {
         let Ok(()) = self.commit(op, place) else {
             return Err(Halt::GivesUp(DropWhy::NoMemory));
         };
-        let _ = self.store.meta();
+        self.store.stands_well();
         self.add_all(jobs);
         let joins = joins(line, &then, &fate);
         self.stand_with(actor, at_place(then, place), pins);
@@ -161,7 +161,7 @@ impl<D: Device> Core<D> {
 
     /// The actor stands so from now on, with the latches of that and no other. Its pins go over from these pages to those.
     pub(crate) fn stand_with(&mut self, actor: Actor, next: Activity, pins: &[u32])
-        requires stand { MayStand actor (core_seen self.old).latches (core_seen self.old).store next }
+        requires stand { MayStand actor (mode_at (core_seen self.old).latches) (core_seen self.old).store next }
         requires pins { CanMovePins pins.now (pages_of (latches_held (core_seen self.old).store next)) (core_seen self.old).uses }
         ensures { Alters (StandsNow actor pins.now next) self.old self.new }
     {
@@ -215,7 +215,7 @@ impl<D: Device> Core<D> {
 
     /// The actor has these latches and no other. Nobody is in the way of them.
     fn latch_all(&mut self, actor: Actor, latches: &[Latch])
-        requires { MayHave actor (core_seen self.old).latches latches.now }
+        requires { MayHave actor (mode_at (core_seen self.old).latches) latches.now }
         ensures latches { Relatches actor latches.now (core_seen self.old).latches (core_seen self.new).latches }
         ensures rest { ChangesBy (with_latches (core_seen self.new).latches) self.old self.new }
     {
@@ -264,7 +264,7 @@ fn take(latches: &mut Latches, actor: Actor, latch: Latch)
     requires actor { IsActor actor }
     requires few { latches_of latches.old actor < 3 }
     requires absent { mode_at latches.old actor latch.page ≡ None }
-    requires free { IsGrantable latches.old actor latch.page latch.mode }
+    requires free { IsGrantable (mode_at latches.old) actor latch.page latch.mode }
     ensures { latches.new ≡ map.insert latches.old (actor, latch.page) latch.mode }
 {
     match latches.try_take(actor, latch.page, latch.mode) {

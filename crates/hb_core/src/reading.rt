@@ -8,26 +8,28 @@ ghost use Rattle.hb_view.specs.Views.{IsLive};
 ghost use Rattle.hb_wal.specs.Log.{mark_of, room_of};
 ghost use Rattle.hb_core.specs.CoreSeen.{core_seen, core_disk};
 ghost use Rattle.hb_activity.specs.Classes.{idle_of};
-ghost use Rattle.hb_core.specs.KeptFits.{IsOfSession, class_for};
-ghost use Rattle.hb_core.specs.Machines.{Machine, live_here};
+ghost use Rattle.hb_steps.specs.KeptFits.{IsOfSession, class_for};
+ghost use Rattle.hb_steps.specs.Machines.{Machine, live_here};
 ghost use Rattle.hb_core.specs.Moving.{StandsAs};
 ghost use Rattle.hb_point.specs.SessionRows.{is_answered};
-ghost use Rattle.hb_core.specs.KeptMachine.{MachineKeeps};
+ghost use Rattle.hb_steps.specs.KeptMachine.{MachineKeeps};
 ghost use Rattle.hb_core.specs.Runs.{has_none, left_count, left_numbers};
-ghost use Rattle.hb_core.specs.SteppingLaws.{IsBegun};
-ghost use Rattle.hb_core.specs.ProgressLaws.{jobs_of};
-ghost use Rattle.hb_core.specs.Taking.{IsMade, all_idle, begun_core, jobs_in_work, worker_for};
+ghost use Rattle.hb_steps.specs.SteppingLaws.{IsBegun};
+ghost use Rattle.hb_steps.specs.ProgressLaws.{jobs_in_work, jobs_of, worker_for};
+ghost use Rattle.hb_core.specs.Taking.{IsMade, all_idle, begun_core};
+ghost use Rattle.hb_space.specs.declared.actors.TheConstants.{SESSIONS};
 ghost use Rattle.hb_core.specs.Showing.{ShowsFiles, ShowsMachine, number_in_hand};
 
 use crate::counts::TidyCounts;
 use crate::halts::copy_of;
-use crate::state::{ACTORS, CONSOLIDATOR, Core, POSTER, SESSIONS};
+use crate::state::Core;
 use arrayvec::ArrayVec;
 use hb_activity::{Activity, JOBS, JobKind, Jobs};
 use hb_disk::{Device, Disk};
 use hb_latch::Latches;
 use hb_layout::Meta;
 use hb_set::{Line, Script};
+use hb_space::actors::{ACTORS, CONSOLIDATOR, FLUSHER, POSTER, SESSIONS};
 use hb_space::{Actor, NoMemory};
 use hb_store::{StopWhy, Store};
 use hb_view::PageView;
@@ -68,7 +70,7 @@ impl<D: Device> Core<D> {
                 alloc,
                 store,
                 script,
-                behind: [0; SESSIONS],
+                behind: [0; SESSIONS as usize],
                 activities: idle_actors(),
                 latches: Latches::new(),
                 jobs,
@@ -322,10 +324,10 @@ fn idle_actors() -> ArrayVec<Activity, ACTORS>
     actors
 }
 
-/// Sixteen sessions without a line.
+/// The sessions, without a line.
 fn push_sessions(actors: &mut ArrayVec<Activity, ACTORS>)
     requires { actors.old.items ≡ [] }
-    ensures { actors.new.items ≡ replicate 16 Activity.SessionIdle }
+    ensures { actors.new.items ≡ replicate SESSIONS Activity.SessionIdle }
 {
     for _ in 0..SESSIONS {
         actors.push(Activity::SessionIdle);
@@ -337,9 +339,9 @@ pub(crate) fn idle(actor: Actor) -> Activity
     ensures { result ≡ idle_of (class_for actor) }
 {
     match actor {
-        17 => Activity::PosterIdle,
-        18 => Activity::ConsolidatorIdle,
-        19 => Activity::Flusher,
+        POSTER => Activity::PosterIdle,
+        CONSOLIDATOR => Activity::ConsolidatorIdle,
+        FLUSHER => Activity::Flusher,
         _ => Activity::SessionIdle,
     }
 }

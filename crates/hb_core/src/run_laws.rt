@@ -3,10 +3,10 @@
 
 ghost use Rattle.hb_core.specs.Runs.{RunningLaws};
 
-use crate::file_laws::files_stay_sound;
-use crate::keeping_laws::steps_keep_all;
-use crate::machine_laws::machines_stay_kept;
-use crate::progress_laws::images_have_prefixes;
+use hb_steps::file_laws::files_stay_sound;
+use hb_steps::keeping_laws::steps_keep_all;
+use hb_steps::machine_laws::machines_stay_kept;
+use hb_steps::progress_laws::images_have_prefixes;
 use hb_store::bytes_open_by_parts;
 
 /// A step keeps what every machine keeps, and files sound; a list of steps keeps all that is kept over a disk

@@ -1,5 +1,6 @@
 //! The core: a store, and where its actors stand.
 ghost use Rattle.std.specs.Prelude.{◌≡◌, ◌<◌, ◌≤◌, ◌^◌, length, vec_capacity};
+ghost use Rattle.hb_space.specs.declared.actors.TheConstants.{ACTORS};
 
 use crate::counts::TidyCounts;
 use arrayvec::ArrayVec;
@@ -7,21 +8,9 @@ use hb_activity::{Activity, Jobs};
 use hb_disk::Device;
 use hb_latch::Latches;
 use hb_set::Script;
-use hb_space::Actor;
+use hb_space::actors::{ACTORS, SESSIONS};
 use hb_store::{StopWhy, Store};
 use std::alloc::Global;
-
-/// How many sessions there are: actors 1 to 16.
-pub(crate) const SESSIONS: usize = 16;
-
-/// How many actors there are: the sessions, and who posts, who merges and who flushes.
-pub(crate) const ACTORS: usize = 19;
-
-/// The actor that posts.
-pub(crate) const POSTER: Actor = 17;
-
-/// The actor that merges.
-pub(crate) const CONSOLIDATOR: Actor = 18;
 
 /// A file with its command lines, and the actors that do them, each by steps of its own.
 #[derive(Drop)]
@@ -33,7 +22,7 @@ pub struct Core<D: Device> {
     pub(crate) script: Script,
     /// How many of the lines lie behind each session: all that it took, and those of others between them;
     /// or all, once none of its own was left.
-    pub(crate) behind: [usize; SESSIONS],
+    pub(crate) behind: [usize; SESSIONS as usize],
     /// Where the actors stand, actor 1 first.
     pub(crate) activities: ArrayVec<Activity, ACTORS>,
     /// Which pages they have latched.
@@ -48,7 +37,7 @@ pub struct Core<D: Device> {
     pub(crate) taken: u64,
     /// How many operations of a kind they did.
     pub(crate) done: TidyCounts,
-    ghost actors: { length activities.items ≡ 19 },
+    ghost actors: { length activities.items ≡ ACTORS },
     ghost few: { length script.lines < 2 ^ 32 },
     ghost room: { length script.lines ≤ vec_capacity order },
 }

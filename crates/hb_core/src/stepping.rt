@@ -3,17 +3,17 @@ ghost use Rattle.std.specs.Prelude.{◌≡◌, ◌-◌, ◌==◌, ℕ, Some, Non
 ghost use Rattle.std.specs.List.{position, slice_get, slice_set};
 ghost use Rattle.hb_space.specs.Actors.{IsActor};
 ghost use Rattle.hb_activity.specs.declared.activities.Activity.TheVariants as at;
-ghost use Rattle.hb_core.specs.declared.outcomes.Outcome.TheVariants as outcomes;
+ghost use Rattle.hb_steps.specs.declared.outcomes.Outcome.TheVariants as outcomes;
 ghost use Rattle.hb_core.specs.CoreSeen.{core_seen, core_disk, Alters, ChangesBy};
 ghost use Rattle.hb_core.specs.Counting.{CountsStep};
-ghost use Rattle.hb_core.specs.Machines.{Machine};
+ghost use Rattle.hb_steps.specs.Machines.{Machine};
 ghost use Rattle.hb_point.specs.SessionRows.{WantsBoxes, boxes_ahead};
 ghost use Rattle.hb_poster.specs.PosterRows.{IsPostingOf};
 ghost use Rattle.hb_consol.specs.ConsolidatorRows.{IsMergingOf};
 ghost use Rattle.hb_core.specs.Moving.{StandsAs, with_standing, with_stop};
 ghost use Rattle.hb_core.specs.Showing.{ShowsMachine};
-ghost use Rattle.hb_core.specs.Forcing.{FlushesOnce, SaysItFlushed, StaysSo};
-ghost use Rattle.hb_core.specs.Steps.{AwaitsPlace, StepsTo};
+ghost use Rattle.hb_steps.specs.Forcing.{FlushesOnce, SaysItFlushed, StaysSo};
+ghost use Rattle.hb_steps.specs.Steps.{AwaitsPlace, StepsTo};
 ghost use Rattle.hb_core.specs.Touching.{StepsSo, Touches};
 ghost use Rattle.hb_core.specs.Taking.{TakesNextLine, TakesNextMerging, TakesNextPosting};
 ghost use Rattle.hb_core.specs.Working.{MayStep};
@@ -21,19 +21,19 @@ ghost use Rattle.hb_core.specs.Relied.{AwaitsSomePlace, MayAwait, MayRun, MayTak
 
 use crate::halts::copy_of;
 use crate::locking::first_against;
-use crate::outcomes::Outcome;
 use crate::reading::idle;
 use crate::state::Core;
 use hb_activity::{Activity, Job, JobKind, box_lock_for};
 use hb_disk::Device;
 use hb_set::{Command, Line, Reply};
 use hb_space::{Actor, Areas, NoMemory, Record, Records};
+use hb_steps::Outcome;
 use hb_store::{Flushed, StopWhy};
 use std::alloc::Global;
 use std::mem;
 
 impl<D: Device> Core<D> {
-    /// Takes one step of the actor, which is 1 to 19: sessions 1 to 16, who posts, who merges, who flushes.
+    /// Takes one step of the actor: a session, who posts, who merges, or who flushes.
     ///
     /// For each machine that the core shows there is a step of the table that leads to a machine which it shows then, and says
     /// what the call answers.

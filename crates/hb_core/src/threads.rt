@@ -1,11 +1,10 @@
 //! The types of this crate may go to another thread, and be read by several.
 
-use crate::{CopyStop, Outcome, TidyCounts};
+use crate::{CopyStop, TidyCounts};
 use hb_lemmas::crosses;
 
 /// Each type of the crate does.
 fn types_cross_threads() {
-    crosses::<Outcome>();
     crosses::<CopyStop>();
     crosses::<TidyCounts>();
 }

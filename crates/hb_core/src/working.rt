@@ -1,35 +1,36 @@
 //! A step that wants a latch or changes the file.
 ghost use Rattle.std.specs.Prelude.{◌≡◌, ◌⊎◌, ◌↔◌, ◌≤◌, ◌++◌, length, None, IsTrue, IfOk, IfErr, IsErrAnd, IfSome, IsSomeAnd};
-ghost use Rattle.hb_latch.specs.Tables.{IsGrantable, IsLeastInTheWay};
+ghost use Rattle.hb_latch.specs.Tables.{IsGrantable, IsLeastInTheWay, mode_at};
 ghost use Rattle.hb_activity.specs.Classes.{hand_of};
-ghost use Rattle.hb_core.specs.Acting.{DoesRow};
+ghost use Rattle.hb_steps.specs.Acting.{DoesRow};
 ghost use Rattle.hb_activity.specs.Wanting.{may_commit};
 ghost use Rattle.hb_pool.specs.Pools.{places};
 ghost use Rattle.hb_store.specs.Calls.{HasPlaces, IsReady};
 ghost use Rattle.hb_store.specs.States.{in_memory};
-ghost use Rattle.hb_core.specs.Asking.{looked_live};
+ghost use Rattle.hb_steps.specs.Asking.{looked_live};
 ghost use Rattle.hb_core.specs.CoreSeen.{core_seen, core_disk, ChangesBy};
 ghost use Rattle.hb_core.specs.Counting.{CountsPart};
-ghost use Rattle.hb_core.specs.Machines.{Machine};
+ghost use Rattle.hb_steps.specs.Machines.{Machine};
 ghost use Rattle.hb_core.specs.Moving.{StandsAs, number_of, with_order_of_use};
-ghost use Rattle.hb_core.specs.Performing.{latches_held};
+ghost use Rattle.hb_steps.specs.Performing.{latches_held};
 ghost use Rattle.hb_core.specs.Pinning.{CanUnpin};
-ghost use Rattle.hb_core.specs.Using.{page_wanted, pages_of, unpin_each};
+ghost use Rattle.hb_steps.specs.Using.{page_wanted, pages_of, unpin_each};
 ghost use Rattle.hb_core.specs.Showing.{ShowsMachine};
-ghost use Rattle.hb_core.specs.Steps.{Works};
+ghost use Rattle.hb_steps.specs.Steps.{Works};
 ghost use Rattle.hb_disk.specs.Calls.{ReadsOnly};
 ghost use Rattle.hb_core.specs.Touching.{IsReadHalt, Touches};
-ghost use Rattle.hb_core.specs.Working.{Halts, HaltsPinned, HasCome, IsStop, IsWorking, MayStep, MayWork};
+ghost use Rattle.hb_core.specs.Going.{IsWorking, MayWork};
+ghost use Rattle.hb_core.specs.Working.{Halts, HaltsPinned, HasCome, IsStop, MayStep};
 ghost use Rattle.hb_core.specs.Relied.{IsAtWork, MayDoRow, MayLookFor, MayNumber};
 
 use crate::halts::Halt;
-use crate::machine_laws::rows_may_be_done;
-use crate::outcomes::Outcome;
 use crate::state::Core;
 use arrayvec::ArrayVec;
 use hb_activity::Wanted;
 use hb_disk::Device;
 use hb_space::Actor;
+use hb_steps::Outcome;
+use hb_steps::machine_laws::rows_may_be_done;
 use hb_store::a_store_keeps_one_file;
 
 impl<D: Device> Core<D> {
@@ -92,8 +93,8 @@ impl<D: Device> Core<D> {
 
     /// The least other actor that is in the way of the latch.
     fn in_the_way(&self, actor: Actor, wanted: Option<Wanted>) -> Option<Actor>
-        ensures free { result ≡ None → IfSome wanted (λ w. IsGrantable (core_seen self.now).latches actor w.page w.mode) }
-        ensures least { IfSome result (λ by. IsSomeAnd wanted (λ w. IsLeastInTheWay (core_seen self.now).latches actor w.page w.mode by)) }
+        ensures free { result ≡ None → IfSome wanted (λ w. IsGrantable (mode_at (core_seen self.now).latches) actor w.page w.mode) }
+        ensures least { IfSome result (λ by. IsSomeAnd wanted (λ w. IsLeastInTheWay (mode_at (core_seen self.now).latches) actor w.page w.mode by)) }
     {
         let wanted = wanted?;
         self.latches.in_the_way(actor, wanted.page, wanted.mode)

@@ -3,9 +3,9 @@ use Rattle.std.proofs.Common.{◌≡◌, ℕ, ◌≤◌, List, [], All, IfSome, 
 use Rattle.std.proofs.lemmas.List.Elements.{All-weaker}
 use Rattle.hb_core.proofs.Facts.BegunCores.{begins_over}
 use Rattle.hb_core.specs.Between.{CopiesPage}
-use Rattle.hb_core.specs.KeptFits.{LineFits}
-use Rattle.hb_core.specs.KeptLines.{HasLineBody}
-use Rattle.hb_core.specs.Machines.{Machine}
+use Rattle.hb_steps.specs.KeptFits.{LineFits}
+use Rattle.hb_steps.specs.KeptLines.{HasLineBody}
+use Rattle.hb_steps.specs.Machines.{Machine}
 use Rattle.hb_core.specs.Showing.{RunningCore}
 use Rattle.hb_core.specs.Taking.{begun_core}
 use Rattle.hb_core.specs.Working.{MayStep}

@@ -2,8 +2,8 @@
 use Rattle.std.specs.Prelude.{◌≡◌, ◌≤◌, ◌<◌, ◌^◌, ℕ, List, All, length}
 use Rattle.hb_disk.specs.Model.{DiskModel}
 use Rattle.hb_core.specs.Counting.{CountsWithin}
-use Rattle.hb_core.specs.KeptFits.{LineFits}
-use Rattle.hb_core.specs.KeptLines.{HasLineBody}
+use Rattle.hb_steps.specs.KeptFits.{LineFits}
+use Rattle.hb_steps.specs.KeptLines.{HasLineBody}
 use Rattle.hb_core.specs.Showing.{RunningCore}
 use Rattle.hb_core.specs.Taking.{all_idle}
 use Rattle.hb_core.specs.Relied.{MayRun}

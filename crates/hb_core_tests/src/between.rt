@@ -126,7 +126,7 @@ fn flushes<D: Device + Drop>(alloc: Global, disk: D) -> Option<(bool, u64, TidyC
 }
 
 /// No operation.
-pub(crate) const NONE: TidyCounts = TidyCounts {
+const NONE: TidyCounts = TidyCounts {
     grown: 0,
     posted: 0,
     split: 0,

@@ -1,5 +1,4 @@
-//! Cores over files of one attribute in memory: over a new one, and over one that was left. Where something is `None`, memory was
-//! refused, or a row of a test is wrong.
+//! Cores over new files of one attribute in memory. Where something is `None`, memory was refused.
 ghost use Rattle.std.specs.Prelude.{[], All, IfSome, IsTrue};
 ghost use Rattle.hb_ops.specs.Files.{FileState};
 ghost use Rattle.hb_ops.specs.Sound.{IsSound};
@@ -7,15 +6,13 @@ ghost use Rattle.hb_store.specs.Keeps.{StoreKeeps};
 ghost use Rattle.hb_store.specs.Seen.{disk_of, seen_as};
 ghost use Rattle.hb_store.specs.States.{IsNew};
 ghost use Rattle.hb_core.specs.CoreSeen.{core_seen, core_disk};
-ghost use Rattle.hb_core.specs.KeptFits.{CommandFits};
-ghost use Rattle.hb_core.specs.KeptLines.{HasBody};
+ghost use Rattle.hb_steps.specs.KeptFits.{CommandFits};
+ghost use Rattle.hb_steps.specs.KeptLines.{HasBody};
 ghost use Rattle.hb_core_tests.specs.Begun.{IsBegunCore, IsFitLine, IsFitScript};
 
-use hb_core::{Core, Ran};
-use hb_disk::{Device, Disk, MemDisk};
-use hb_drive::drive;
-use hb_outside::MemSink;
-use hb_restart::{Layout, a_new_file_is_sound, create, recover};
+use hb_core::Core;
+use hb_disk::{Device, MemDisk};
+use hb_restart::{Layout, a_new_file_is_sound, create};
 use hb_set::{Command, Line, Script};
 use hb_space::Attributes;
 use hb_store::Store;
@@ -34,18 +31,9 @@ const LAYOUT: Layout = Layout {
 /// How many bytes its disk has.
 const SIZE: usize = 401_408;
 
-/// A number that no call has.
-pub(crate) const NEVER: u64 = u64::MAX;
-
 /// A disk of zeros for it.
 pub(crate) fn zeros(alloc: Global) -> Option<MemDisk> {
     Some(MemDisk::new(alloc, vec![in alloc; 0; SIZE].ok()?))
-}
-
-/// A sink that fails at the call of this number.
-pub(crate) fn sink_of(alloc: Global, failing: u64) -> Option<MemSink> {
-    let calls = Vec::from_slice(alloc, &[failing]).ok()?;
-    Some(MemSink::new(alloc, calls))
 }
 
 /// Whether a command is over one attribute. Its body and its box are what their types keep.
@@ -121,39 +109,4 @@ pub(crate) fn begun<D: Device + Drop>(alloc: Global, disk: D, text: &str) -> Opt
         Ok(store) => begun_over(alloc, store, script),
         Err(_) => None,
     }
-}
-
-/// A core of a text over the file of a disk.
-pub(crate) fn reopened<D: Device + Drop>(alloc: Global, disk: D, text: &str) -> Option<Core<D>>
-    ensures { IfSome result (λ c. IsBegunCore (D.model (core_disk c)) (core_seen c)) }
-{
-    let script = script_of(alloc, text)?;
-    match recover(alloc, disk) {
-        Ok((store, _records)) => begun_over(alloc, store, script),
-        Err(_) => None,
-    }
-}
-
-/// The run of a core's schedule, with a sink that fails at the call of this number.
-pub(crate) fn driven<D: Disk + Drop>(
-    alloc: Global,
-    core: Core<D>,
-    failing: u64,
-) -> Option<Ran<D, MemSink>>
-    requires { IsBegunCore (D.model (core_disk core)) (core_seen core) }
-{
-    let sink = sink_of(alloc, failing)?;
-    Some(drive(alloc, core, sink))
-}
-
-/// The disk of a core.
-pub(crate) fn disk_under<D: Device + Drop>(core: Core<D>) -> D {
-    let (store, _order) = core.into_store();
-    store.into_disk()
-}
-
-/// The disk that the run of a text leaves of a new file.
-pub(crate) fn left_by(alloc: Global, text: &str) -> Option<MemDisk> {
-    let ran = driven(alloc, begun(alloc, zeros(alloc)?, text)?, NEVER)?;
-    Some(disk_under(ran.core))
 }

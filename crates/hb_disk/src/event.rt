@@ -4,7 +4,7 @@ ghost use Rattle.hb_disk.specs.Model.{overwritten};
 ghost use Rattle.hb_disk.specs.Events.{undone, range_of, LiesWithin};
 
 /// Why a call wasn't done.
-#[derive(Clone, Copy, Debug, PartialEq, Eq)]
+#[derive(Clone, Copy, PartialEq, Eq)]
 pub(crate) enum Refused {
     /// It is one of those that were to fail.
     Listed,

@@ -1,7 +1,6 @@
 //! Calls over disks in memory, and the images that each moment leaves.
 
 use crate::letters::{PICKS, disk_of, push_bytes};
-use crate::rows::expect_all;
 use hb_disk::{Device, Disk, MemDisk, Pick, RotDisk, write_behind_gate, write_in_order};
 use hb_space::NoMemory;
 use std::alloc::Global;
@@ -104,12 +103,7 @@ pub(crate) fn order(alloc: Global, question: &str) -> Result<String, Fail> {
     images(alloc, &pieced(alloc)?, question)
 }
 
-#[test]
-fn images_of_each_moment(rt: HostRuntime) -> Result<(), Fail> {
-    expect_all(&rt, rt.alloc(), MOMENTS)
-}
-
-const MOMENTS: &str = "
+pub(crate) const ROWS: &str = "
 run:  | 0 => yyyyy abcdefgh abcdefgh abcdefgh
 run:  | 1 => yyyyy abcdefgh abXYefgh ab##efgh
 run:  | 2 => yyyyy abXYefgh abXYefgh abXYefgh
@@ -135,17 +129,18 @@ order: 1 => ijklmnop abklmnop ##klmnop
 order: 2 => abklmnop abklmnop abklmnop
 order: 3 => abklmnop abklcdop abkl##op
 order: 4 => abklcdop abklcdop abklcdop
+count: abcdefgh => 5 4 0 _bXYeZgh
+rot: abcd => abcd;abXd;
 ";
 
-#[test]
-fn a_disk_counts(rt: HostRuntime) -> Result<(), Fail> {
-    let alloc = rt.alloc();
-    let mut disk = disk_of(alloc, "abcdefgh", "")?;
-    let mut text = String::new(alloc);
-    push_calls(&mut text, &mut disk)?;
-    assert_eq!(rt; [disk.calls(), disk.clock(), disk.starved()], [5, 4, 0]);
-    assert_eq!(rt; disk.bytes(), b"\0bXYeZgh".as_slice());
-    Ok(())
+/// The disk's counts of calls, of those that changed it and of those that memory was refused to, and its bytes, behind five calls:
+/// from `BYTES`.
+pub(crate) fn count(alloc: Global, question: &str) -> Result<String, Fail> {
+    let mut disk = disk_of(alloc, question, "")?;
+    let _done = five_calls(&mut disk);
+    let mut text = format!(in alloc; "{} {} {} ", disk.calls(), disk.clock(), disk.starved())?;
+    push_bytes(&mut text, disk.bytes())?;
+    Ok(text)
 }
 
 fn read_twice<D: Device>(disk: &mut D) -> Option<[[u8; 4]; 2]> {
@@ -159,14 +154,18 @@ fn read_twice<D: Device>(disk: &mut D) -> Option<[[u8; 4]; 2]> {
     Some([first, second])
 }
 
-#[test]
-fn a_byte_goes_bad(rt: HostRuntime) -> Result<(), Fail> {
+/// What two reads give of four bytes, the third of which is `X` from the second read on: from `BYTES`.
+pub(crate) fn rot(alloc: Global, question: &str) -> Result<String, Fail> {
     let mut disk = RotDisk {
-        inner: disk_of(rt.alloc(), "abcd", "")?,
+        inner: disk_of(alloc, question, "")?,
         before: 1,
         at: 2,
         byte: b'X',
     };
-    assert_eq!(rt; read_twice(&mut disk), Some([*b"abcd", *b"abXd"]));
-    Ok(())
+    let mut text = String::new(alloc);
+    for read in read_twice(&mut disk).ok_or("no read")? {
+        push_bytes(&mut text, &read)?;
+        text.push(';')?;
+    }
+    Ok(text)
 }

@@ -1,9 +1,10 @@
 //! The tests of hb_outside, hb_disk, hb_wal and hb_super, and nothing else. They stand here since a crate with tests is
 //! proved twice, once without them: of this crate nothing is left then.
 //!
-//! A test is mostly a table of rows, each `QUESTION => ANSWER`, and each answer was worked out by
-//! hand. `streams`, `numbers`, `disks`, `logs` and `supers` have the tables, and what answers their
-//! questions. `rows` goes through a table, and `letters` turns text into bytes and back.
+//! A table has rows, each `QUESTION => ANSWER`, and each answer was worked out by hand. `streams`,
+//! `numbers`, `disks`, `logs` and `supers` have the tables, and what answers their questions. `rows`
+//! goes through them in the one test, since each test is proved too, and `letters` turns text into
+//! bytes and back.
 #![tactic(auto)]
 
 #[cfg(test)]

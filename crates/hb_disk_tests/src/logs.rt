@@ -5,7 +5,6 @@ ghost use Rattle.std.specs.Prelude.{◌≡◌, ◌≤◌, [], IfOk, IsTrue};
 ghost use Rattle.hb_wal.specs.Forces.{MayForce};
 
 use crate::letters::{PICKS, bytes_of, disk_of, push_bytes};
-use crate::rows::expect_all;
 use hb_disk::{Device, MemDisk, Pick};
 use hb_space::NoMemory;
 use hb_wal::{Payloads, ReadStop, Wal, read_area, zero_area};
@@ -53,12 +52,7 @@ pub(crate) fn area(alloc: Global, question: &str) -> Result<String, Fail> {
     Ok(text)
 }
 
-#[test]
-fn areas(rt: HostRuntime) -> Result<(), Fail> {
-    expect_all(&rt, rt.alloc(), AREAS)
-}
-
-const AREAS: &str = "
+pub(crate) const AREAS: &str = "
 area:  => end
 area: #___ => end
 area: _______ => end
@@ -254,13 +248,8 @@ pub(crate) fn force(alloc: Global, question: &str) -> Result<String, Fail> {
     Ok(text)
 }
 
-#[test]
-fn a_log_lives(rt: HostRuntime) -> Result<(), Fail> {
-    expect_all(&rt, rt.alloc(), LIFE)
-}
-
 // The area takes two calls, and a force of whatever waits four. Room is counted as if each group that waits were a frame.
-const LIFE: &str = "
+pub(crate) const LIFE: &str = "
 life: 0 0 => 0 0 9 19 2 nn________________________nnnn
 life: 0 1 => 0 0 9 19 2 nn________________________nnnn
 life: 1 0 => 2 0 3 12 2 nn________________________nnnn
@@ -283,15 +272,12 @@ life: 2+1 0 => 1 8 7 5 6 nn#___3abc________________nnnn
 life: 2+1 1 => 0 14 9 5 10 nn#___3abc#___1e__________nnnn
 life: 3+1 0 => 1 9 7 4 6 nn#___4abcd_______________nnnn
 life: 3+1 1 => 0 15 9 4 10 nn#___4abcd#___1e_________nnnn
+// a put of one record
+frame:  => 16 0 16 n#___%_1___1_______51annnnnnnn
 ";
 
-#[test]
-fn a_force_stops(rt: HostRuntime) -> Result<(), Fail> {
-    expect_all(&rt, rt.alloc(), FORCES)
-}
-
 // Of the groups that are forced together all are there or none.
-const FORCES: &str = "
+pub(crate) const FORCES: &str = "
 // a force is stopped, of one group
 force: 1 |  | 2 => 0 7 9, end, end, end
 force: 1 |  | 3 => 0 7 9, end, end, end
@@ -369,10 +355,10 @@ fn push_put(alloc: Global, text: &mut String, disk: &mut MemDisk) -> Result<(), 
     Ok(push_bytes(text, disk.bytes())?)
 }
 
-#[test]
-fn the_frame_of_a_put(rt: HostRuntime) -> Result<(), Fail> {
-    let mut text = String::new(rt.alloc());
-    push_put(rt.alloc(), &mut text, &mut disk_of(rt.alloc(), NOISE, "")?)?;
-    assert_eq!(rt; text.as_str(), "16 0 16 n#___%_1___1_______51annnnnnnn");
-    Ok(())
+/// The room before, between and behind, and the bytes of the disk.
+pub(crate) fn frame(alloc: Global) -> Result<String, Fail> {
+    let mut disk = disk_of(alloc, NOISE, "")?;
+    let mut text = String::new(alloc);
+    push_put(alloc, &mut text, &mut disk)?;
+    Ok(text)
 }

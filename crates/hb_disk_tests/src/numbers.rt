@@ -1,7 +1,6 @@
 //! Numbers as bytes, and back.
 
 use crate::letters::numbers_of;
-use crate::rows::expect_all;
 use hb_outside::{give_u16, give_u32, give_u64, take_u8, take_u16, take_u32, take_u64};
 use std::alloc::Global;
 use std::test::Fail;
@@ -61,12 +60,7 @@ pub(crate) fn taken(alloc: Global, question: &str) -> Result<String, Fail> {
     }
 }
 
-#[test]
-fn numbers_as_bytes(rt: HostRuntime) -> Result<(), Fail> {
-    expect_all(&rt, rt.alloc(), NUMBERS)
-}
-
-const NUMBERS: &str = "
+pub(crate) const ROWS: &str = "
 give: 2 0 => 9 0 0 9 9 9 9 9 9 9
 give: 2 1 => 9 0 1 9 9 9 9 9 9 9
 give: 2 255 => 9 0 255 9 9 9 9 9 9 9

@@ -19,9 +19,13 @@ fn answer(alloc: Global, text: &str) -> Result<String, Fail> {
         "run" => disks::run(alloc, question),
         "gate" => disks::gate(alloc, question),
         "order" => disks::order(alloc, question),
+        "count" => disks::count(alloc, question),
+        "rot" => disks::rot(alloc, question),
         "area" => logs::area(alloc, question),
         "life" => logs::life(alloc, question),
         "force" => logs::force(alloc, question),
+        "frame" => logs::frame(alloc),
+        "first" => supers::first(alloc),
         "newest" => supers::newest(alloc, question),
         "write" => supers::write(alloc, question),
         "clear" => supers::clear(alloc, question),
@@ -37,12 +41,30 @@ fn expect(rt: &impl Abort, alloc: Global, row: &str) -> Result<(), Fail> {
     Ok(())
 }
 
-/// Asserts that each row's question has the row's answer.
-pub(crate) fn expect_all(rt: &impl Abort, alloc: Global, rows: &str) -> Result<(), Fail> {
+// Asserts that each row's question has the row's answer.
+fn expect_all(rt: &impl Abort, alloc: Global, rows: &str) -> Result<(), Fail> {
     for row in rows.lines() {
         if !row.is_empty() && !row.starts_with("//") {
             expect(rt, alloc, row)?;
         }
+    }
+    Ok(())
+}
+
+const TABLES: [&str; 7] = [
+    streams::ROWS,
+    numbers::ROWS,
+    disks::ROWS,
+    logs::AREAS,
+    logs::LIFE,
+    logs::FORCES,
+    supers::ROWS,
+];
+
+#[test]
+fn rows_are_answered(rt: HostRuntime) -> Result<(), Fail> {
+    for table in TABLES {
+        expect_all(&rt, rt.alloc(), table)?;
     }
     Ok(())
 }

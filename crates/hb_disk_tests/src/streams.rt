@@ -1,7 +1,6 @@
 //! Takes from sources and puts into sinks, over memory and over a reader and a writer, some of which fail.
 
 use crate::letters::{bytes_of, numbers_of, push_bytes};
-use crate::rows::expect_all;
 use hb_outside::{Failed, MemSink, MemSource, ReadSource, Sink, Source, WriteSink};
 use hb_space::NoMemory;
 use std::alloc::Global;
@@ -188,12 +187,7 @@ pub(crate) fn vector(alloc: Global) -> Result<String, Fail> {
     Ok(text)
 }
 
-#[test]
-fn sources_and_sinks(rt: HostRuntime) -> Result<(), Fail> {
-    expect_all(&rt, rt.alloc(), STREAMS)
-}
-
-const STREAMS: &str = "
+pub(crate) const ROWS: &str = "
 source: abcdefghi |  => ab|cd|ef|gh|i 4
 source: abcde | 0 => !|ab|cd|e| 4
 source: abcde | 1 => ab|!|cd|e| 4

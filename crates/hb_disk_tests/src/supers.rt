@@ -5,7 +5,6 @@
 ghost use Rattle.std.specs.Prelude.{◌≡◌, ◌≤◌};
 
 use crate::letters::{PICKS, numbers_of};
-use crate::rows::expect_all;
 use hb_disk::{Device, MemDisk, Pick};
 use hb_layout::Meta;
 use hb_super::{SuperStop, clear_hidden, read_super, write_super};
@@ -137,12 +136,7 @@ pub(crate) fn clear(alloc: Global, question: &str) -> Result<String, Fail> {
     Ok(format!(in alloc; "{done} {} {fate}", disk.calls())?)
 }
 
-#[test]
-fn superblocks(rt: HostRuntime) -> Result<(), Fail> {
-    expect_all(&rt, rt.alloc(), SUPERBLOCKS)
-}
-
-const SUPERBLOCKS: &str = "
+pub(crate) const ROWS: &str = "
 newest: 10=0 | 10=1 => 1
 newest: 10=2 | 10=1 => 2
 newest: 10=2 | 10=3 => 3
@@ -176,6 +170,8 @@ newest: 22=49 | zeros => 8
 newest: 24=31 | zeros => 8
 newest: 23=1 | zeros => 8
 newest: 40=255 | zeros => 0
+// over zeros
+first:  => true 6 true true
 // a write is stopped
 write: 10=3 |  | 0 => true 0 0 0
 write: 10=3 |  | 1 => true 0 0 0
@@ -205,13 +201,16 @@ clear: 10=1 28=9 32=9 36=9 => true 1 as it was
 clear: zeros => true 1 as it was
 ";
 
-#[test]
-fn the_first_superblock(rt: HostRuntime) -> Result<(), Fail> {
-    let mut disk = disk_of(rt.alloc(), "zeros", "zeros", "")?;
-    assert!(rt; wrote(&mut disk, 0));
-    assert_eq!(rt; disk.calls(), 6);
-    assert_eq!(rt; disk.bytes().get(..41), Some(SUPER.as_slice()));
-    assert!(rt; disk.size() >= 8192);
-    assert_eq!(rt; read_super(&mut disk), Ok((0, META)));
-    Ok(())
+// Whether the newest superblock is that of turn 0.
+fn is_first<D: Device>(disk: &mut D) -> bool {
+    disk.size() >= 8192 && read_super(disk) == Ok((0, META))
+}
+
+/// Whether turn 0 is written over zeros, by how many calls, whether it is `SUPER`, and whether it is read.
+pub(crate) fn first(alloc: Global) -> Result<String, Fail> {
+    let mut disk = disk_of(alloc, "zeros", "zeros", "")?;
+    let done = wrote(&mut disk, 0);
+    let calls = disk.calls();
+    let stands = disk.bytes().get(..41) == Some(SUPER.as_slice());
+    Ok(format!(in alloc; "{done} {calls} {stands} {}", is_first(&mut disk))?)
 }

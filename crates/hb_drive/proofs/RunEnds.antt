@@ -14,11 +14,11 @@ use Rattle.hb_text.specs.Output.{answer_text, left_text, order_text}
 use Rattle.hb_wal.specs.Log.{mark_of}
 use Rattle.hb_core.specs.declared.endings.End.{End}
 use Rattle.hb_core.specs.declared.endings.End.TheVariants as ends
-use Rattle.hb_core.specs.Machines.{Machine, settled_count}
+use Rattle.hb_steps.specs.Machines.{Machine, settled_count}
 use Rattle.hb_core.specs.Runs.{left_numbers}
 use Rattle.hb_core.specs.Showing.{RunningCore, ShowsMachine}
 use Rattle.hb_drive.specs.Driving.{EndsWith, IsEndOf, LeavesEnd, run_text}
-use Rattle.hb_core.proofs.Facts.LaterPages.{same_settled}
+use Rattle.hb_core.proofs.Facts.SettledPlaces.{same_settled}
 
 -- what follows the replies
 abbrev rest_text : List ℕ → Bool → List ℕ → ℕ → List ℕ

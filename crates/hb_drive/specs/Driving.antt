@@ -13,7 +13,7 @@ use Rattle.hb_core.specs.declared.endings.End.TheVariants as ends
 use Rattle.hb_core.specs.declared.endings.Ran.{Ran}
 use Rattle.hb_core.specs.declared.state.Core.{Core}
 use Rattle.hb_core.specs.CoreSeen.{core_seen, core_disk}
-use Rattle.hb_core.specs.Machines.{Machine, settled_count}
+use Rattle.hb_steps.specs.Machines.{Machine, settled_count}
 use Rattle.hb_core.specs.Runs.{HasReadFault, HasRun, left_numbers}
 use Rattle.hb_core.specs.Showing.{RunningCore}
 use Rattle.hb_core.specs.Working.{MayStep}

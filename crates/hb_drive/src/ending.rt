@@ -1,7 +1,7 @@
 //! How a run ended, and what is written then.
 ghost use Rattle.std.specs.Prelude.{◌≡◌, ◌≤◌, ◌↔◌, [], IsTrue, length, vec_capacity};
 ghost use Rattle.hb_core.specs.CoreSeen.{core_seen, core_disk};
-ghost use Rattle.hb_core.specs.Machines.{Machine};
+ghost use Rattle.hb_steps.specs.Machines.{Machine};
 ghost use Rattle.hb_core.specs.Runs.{HasReadFault};
 ghost use Rattle.hb_core.specs.Relied.{MayTakeSteps};
 ghost use Rattle.hb_core.specs.Working.{MayStep};

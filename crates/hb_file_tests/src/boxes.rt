@@ -1,6 +1,7 @@
 //! Files of two, three and four attributes: a sound one of each, and the same with another page in the place of one of its
 //! own. The answers were worked out by hand from the rules.
 
+use crate::rows::expect;
 use crate::spelled_files::{MetaNumbers, Outcome, is_audited};
 
 // Page 1 is the root, and names some of the others. Page 2 has the whole space, and gave a box to another page, which gave a
@@ -107,11 +108,9 @@ const ROWS: [(u8, usize, &str, Outcome); 40] = [
 
 #[test]
 fn boxes_of_several_attributes(rt: HostRuntime) {
-    for &(k, number, other, want) in &ROWS {
+    for (place, &(k, number, other, want)) in ROWS.iter().enumerate() {
         let (numbers, text) = sound_file(k);
-        assert!(rt;
-            is_audited(rt.alloc(), k, numbers, text, number, other, want),
-            "{k} {other}"
-        );
+        let is_so = is_audited(rt.alloc(), k, numbers, text, number, other, want);
+        expect(&rt, place, is_so);
     }
 }

@@ -7,6 +7,7 @@ ghost use Rattle.hb_file_tests.specs.Driven.{IsDrivenHere};
 use crate::fetches::told;
 use crate::homes::flush;
 use crate::orders::{SOUND, wide};
+use crate::rows::expect;
 use crate::stores::{all_held, all_taken};
 use hb_disk::RotDisk;
 use hb_store::Store;
@@ -124,12 +125,7 @@ fn crowds(alloc: Global, row: Crowd) -> Option<bool> {
 
 #[test]
 fn a_place_is_wanted_until_a_page_went_home(rt: HostRuntime) {
-    for &row in &CROWDS {
-        assert!(rt;
-            crowds(rt.alloc(), row) == Some(true),
-            "{} {}",
-            row.0,
-            row.1
-        );
+    for (place, row) in CROWDS.iter().enumerate() {
+        expect(&rt, place, crowds(rt.alloc(), *row) == Some(true));
     }
 }

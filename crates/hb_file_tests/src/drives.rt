@@ -6,6 +6,7 @@ ghost use Rattle.hb_store.specs.Seen.{seen_as, uses_of};
 ghost use Rattle.hb_file_tests.specs.Driven.{IsDrivenHere};
 
 use crate::driven_trees::{PARENTS_TOGETHER, SPLIT_AGAIN, SPLIT_TOGETHER, TWO_PARENTS};
+use crate::rows::expect;
 use crate::stores::{NEVER, all_held, done, forced};
 use hb_disk::{MemDisk, Pick, RotDisk};
 use hb_ops::Meta;
@@ -71,7 +72,7 @@ fn opened(alloc: Global, bytes: Vec<u8>, failing: u64) -> Option<Store<RotDisk>>
     };
     match recover(alloc, disk) {
         Ok((store, _)) => {
-            let _said = store.meta();
+            store.stands_well();
             Some(store)
         }
         Err(_) => None,
@@ -161,13 +162,8 @@ fn writes(alloc: Global, tree: &Tree) -> Option<bool> {
 
 #[test]
 fn a_driving_writes_these_bytes(rt: HostRuntime) {
-    for tree in TREES {
-        assert!(rt;
-            writes(rt.alloc(), &tree) == Some(true),
-            "{} {:?}",
-            tree.size,
-            tree.ends
-        );
+    for (place, tree) in TREES.iter().enumerate() {
+        expect(&rt, place, writes(rt.alloc(), tree) == Some(true));
     }
 }
 
@@ -262,15 +258,10 @@ fn first_lost(alloc: Global, tree: &Tree, pick: Pick) -> Option<u64> {
 
 #[test]
 fn a_driving_stops_before_each_call(rt: HostRuntime) {
-    for tree in TREES {
+    for (place, tree) in TREES.iter().enumerate() {
         for pick in PICKS {
-            assert_eq!(rt;
-                first_lost(rt.alloc(), &tree, pick),
-                None,
-                "{} {:?} {pick:?}",
-                tree.size,
-                tree.ends
-            );
+            let lost = first_lost(rt.alloc(), tree, pick);
+            expect(&rt, place, lost.is_none());
         }
     }
 }
@@ -318,10 +309,10 @@ const STOPS: [(Pick, u64); 3] = [(Pick::Old, NEVER), (Pick::New, 3), (Pick::Nois
 
 #[test]
 fn an_opening_behind_a_driving_stops(rt: HostRuntime) {
-    for tree in TREES {
+    for (place, tree) in TREES.iter().enumerate() {
         for (pick, last) in STOPS {
-            let opened = ends_twice(rt.alloc(), &tree, pick, last);
-            assert_eq!(rt; opened, Some(()), "{} {:?} {pick:?}", tree.size, tree.ends);
+            let opened = ends_twice(rt.alloc(), tree, pick, last);
+            expect(&rt, place, opened.is_some());
         }
     }
 }
@@ -359,13 +350,8 @@ fn first_fault_lost(alloc: Global, tree: &Tree) -> Option<u64> {
 
 #[test]
 fn each_call_of_a_driving_fails(rt: HostRuntime) {
-    for tree in TREES {
-        assert_eq!(rt;
-            first_fault_lost(rt.alloc(), &tree),
-            None,
-            "{} {:?}",
-            tree.size,
-            tree.ends
-        );
+    for (place, tree) in TREES.iter().enumerate() {
+        let lost = first_fault_lost(rt.alloc(), tree);
+        expect(&rt, place, lost.is_none());
     }
 }

@@ -1,5 +1,6 @@
 //! The page of a small file, by hand: when it is fetched, how often it is read, and which number an allocation takes.
 
+use crate::rows::expect;
 use crate::stores::{EMPTY, MetaNumbers, NEVER, disk, opened};
 use hb_disk::RotDisk;
 use hb_store::{FetchStop, Store, Why};
@@ -68,8 +69,9 @@ const FETCHES: [(u32, &[u8], u64, Told); 9] = [
 
 #[test]
 fn pages_are_fetched(rt: HostRuntime) {
-    for &(id, page, failing, want) in &FETCHES {
-        assert_eq!(rt; fetched(rt.alloc(), id, page, failing), Some(want), "{id}");
+    for (place, &(id, page, failing, want)) in FETCHES.iter().enumerate() {
+        let told = fetched(rt.alloc(), id, page, failing);
+        expect(&rt, place, told == Some(want));
     }
 }
 
@@ -93,8 +95,9 @@ const CALLS: [(&[u32], u64, u64); 5] = [
 
 #[test]
 fn a_fetch_reads_at_most_once(rt: HostRuntime) {
-    for &(ids, failing, want) in &CALLS {
-        assert_eq!(rt; calls(rt.alloc(), ids, failing), Some(want), "{ids:?}");
+    for (place, &(ids, failing, want)) in CALLS.iter().enumerate() {
+        let made = calls(rt.alloc(), ids, failing);
+        expect(&rt, place, made == Some(want));
     }
 }
 
@@ -132,11 +135,8 @@ const NUMBERS: [(MetaNumbers, &[u8], u64, Told); 11] = [
 
 #[test]
 fn numbers_are_taken(rt: HostRuntime) {
-    for &(numbers, page, failing, want) in &NUMBERS {
-        assert_eq!(rt;
-            next(rt.alloc(), numbers, page, failing),
-            Some(want),
-            "{numbers:?}"
-        );
+    for (place, &(numbers, page, failing, want)) in NUMBERS.iter().enumerate() {
+        let told = next(rt.alloc(), numbers, page, failing);
+        expect(&rt, place, told == Some(want));
     }
 }

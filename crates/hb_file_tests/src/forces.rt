@@ -2,6 +2,7 @@
 //! behind a force. The disk tells nothing.
 
 use crate::groups::{behind, flushed, turned};
+use crate::rows::expect;
 use crate::stores::NEVER;
 use std::alloc::Global;
 
@@ -61,9 +62,9 @@ fn forces(
 
 #[test]
 fn groups_are_forced(rt: HostRuntime) {
-    for &(is_tree, count, failing, times, want) in &FORCES {
+    for (place, &(is_tree, count, failing, times, want)) in FORCES.iter().enumerate() {
         let right = forces(rt.alloc(), is_tree, count, failing, times, want);
-        assert!(rt; right == Some(true), "{is_tree} {count} {failing} {times}");
+        expect(&rt, place, right == Some(true));
     }
 }
 
@@ -91,8 +92,8 @@ fn waits(alloc: Global, is_tree: bool, count: usize, forces: &[usize]) -> Option
 
 #[test]
 fn groups_wait_behind_a_force(rt: HostRuntime) {
-    for &(is_tree, count, forces, want) in &TURNS {
+    for (place, &(is_tree, count, forces, want)) in TURNS.iter().enumerate() {
         let found = waits(rt.alloc(), is_tree, count, forces);
-        assert_eq!(rt; found, Some(want), "{is_tree} {forces:?}");
+        expect(&rt, place, found == Some(want));
     }
 }

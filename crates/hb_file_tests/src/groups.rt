@@ -5,6 +5,7 @@ ghost use Rattle.std.specs.Prelude.{◌≡◌, false, IfSome};
 ghost use Rattle.hb_store.specs.Seen.{seen_as};
 
 use crate::homes::flush;
+use crate::rows::expect;
 use crate::stores::{EMPTY, FOUR, NEVER, POINTS, SPLIT, with_groups};
 use hb_disk::{Device, RotDisk};
 use hb_frag::{Leaf, Node, Page};
@@ -121,8 +122,8 @@ fn comes(alloc: Global, row: Row) -> Option<bool> {
 
 #[test]
 fn groups_wait(rt: HostRuntime) {
-    for &row in &ROWS {
-        assert!(rt; comes(rt.alloc(), row) == Some(true), "{} {}", row.0, row.1);
+    for (place, row) in ROWS.iter().enumerate() {
+        expect(&rt, place, comes(rt.alloc(), *row) == Some(true));
     }
 }
 
@@ -235,11 +236,9 @@ fn stands(alloc: Global, is_tree: bool, forces: &[usize], at: usize, want: &[u8]
 
 #[test]
 fn groups_have_these_bytes(rt: HostRuntime) {
-    for &(is_tree, forces, at, want) in &FRAMES {
-        assert!(rt;
-            stands(rt.alloc(), is_tree, forces, at, want) == Some(true),
-            "{is_tree} {forces:?} {at}"
-        );
+    for (place, &(is_tree, forces, at, want)) in FRAMES.iter().enumerate() {
+        let right = stands(rt.alloc(), is_tree, forces, at, want);
+        expect(&rt, place, right == Some(true));
     }
 }
 
@@ -263,9 +262,9 @@ const WAYS: [&[usize]; 4] = [APART, &[], &[2, 3], &[1]];
 
 #[test]
 fn a_tree_grows(rt: HostRuntime) {
-    for forces in WAYS {
+    for (place, forces) in WAYS.iter().enumerate() {
         let grows = replays(rt.alloc(), 4, forces, [3, 2, 3, 3]);
-        assert!(rt; grows == Some(true), "{forces:?}");
+        expect(&rt, place, grows == Some(true));
     }
 }
 
@@ -314,9 +313,9 @@ fn merges(alloc: Global, forces: &[usize]) -> Option<bool> {
 
 #[test]
 fn a_tree_shrinks(rt: HostRuntime) {
-    for forces in WAYS {
+    for (place, forces) in WAYS.iter().enumerate() {
         let shrinks = replays(rt.alloc(), 5, forces, [3, 2, 3, 2]);
-        assert!(rt; shrinks == Some(true), "{forces:?}");
-        assert!(rt; merges(rt.alloc(), forces) == Some(true), "{forces:?}");
+        expect(&rt, place, shrinks == Some(true));
+        expect(&rt, place, merges(rt.alloc(), forces) == Some(true));
     }
 }

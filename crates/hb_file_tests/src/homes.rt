@@ -7,7 +7,8 @@ ghost use Rattle.hb_file_tests.specs.Driven.{IsDrivenOnFirst};
 use crate::driven_trees::{PARENTS_TOGETHER, SPLIT_AGAIN, SPLIT_TOGETHER, TWO_PARENTS};
 use crate::drives::{PICKS, Tree, file, image_opened, put_all, stand, stands, walked};
 use crate::groups::behind;
-use crate::openings::{LEFT, MERGED};
+use crate::openings::{LEFT, MERGED, all_stand};
+use crate::rows::expect;
 use crate::stores::{NEVER, POINTS};
 use hb_disk::{MemDisk, RotDisk};
 use hb_store::{Flushed, Store};
@@ -71,11 +72,16 @@ fn flushed(alloc: Global, is_tree: bool, count: usize, want: &str) -> Option<Mem
     }
 }
 
+/// How many calls it has had.
+fn calls_behind(alloc: Global, is_tree: bool, count: usize, want: &str) -> Option<u64> {
+    Some(flushed(alloc, is_tree, count, want)?.calls())
+}
+
 #[test]
 fn groups_come_before_pages(rt: HostRuntime) {
-    for &(is_tree, count, want, calls) in &FLUSHES {
-        let disk = flushed(rt.alloc(), is_tree, count, want);
-        assert_eq!(rt; disk.map(|d| d.calls()), Some(calls), "{is_tree} {want}");
+    for (place, &(is_tree, count, want, calls)) in FLUSHES.iter().enumerate() {
+        let made = calls_behind(rt.alloc(), is_tree, count, want);
+        expect(&rt, place, made == Some(calls));
     }
 }
 
@@ -107,23 +113,27 @@ fn are_there(bytes: &[u8], home: [bool; 3]) -> bool {
     true
 }
 
+/// Whether that is so behind these flushes.
+fn is_home(alloc: Global, want: &str, home: [bool; 3]) -> Option<bool> {
+    Some(are_there(flushed(alloc, true, 5, want)?.bytes(), home))
+}
+
 #[test]
 fn pages_go_home_one_by_one(rt: HostRuntime) {
-    for &(want, home) in &STEPS {
-        let disk = flushed(rt.alloc(), true, 5, want).expect(&rt, "row");
-        assert!(rt; are_there(disk.bytes(), home), "{want}");
+    for (place, &(want, home)) in STEPS.iter().enumerate() {
+        expect(&rt, place, is_home(rt.alloc(), want, home) == Some(true));
     }
+}
+
+/// Whether the three pages of the tree stand in their places once it grew and all went home.
+fn is_tree_home(alloc: Global) -> Option<bool> {
+    let disk = flushed(alloc, true, 4, "f123sn")?;
+    Some(all_stand(disk.bytes(), LEFT.get(..3)?))
 }
 
 #[test]
 fn a_tree_goes_home(rt: HostRuntime) {
-    let disk = flushed(rt.alloc(), true, 4, "f123sn").expect(&rt, "row");
-    for (place, (_, fields)) in LEFT.iter().take(3).enumerate() {
-        assert!(rt;
-            stands(disk.bytes(), place.saturating_add(1), fields),
-            "{place}"
-        );
-    }
+    expect(&rt, 0, is_tree_home(rt.alloc()) == Some(true));
 }
 
 /// A tree that is driven, and the pages that go home then, in their order.
@@ -165,11 +175,9 @@ fn stands_home(alloc: Global, tree: &Tree, pages: &str) -> Option<bool> {
 
 #[test]
 fn a_driving_goes_home(rt: HostRuntime) {
-    for (tree, pages) in &HOMEWARD {
-        assert!(rt;
-            stands_home(rt.alloc(), tree, pages) == Some(true),
-            "{pages}"
-        );
+    for (place, (tree, pages)) in HOMEWARD.iter().enumerate() {
+        let right = stands_home(rt.alloc(), tree, pages);
+        expect(&rt, place, right == Some(true));
     }
 }
 
@@ -200,8 +208,9 @@ fn first_lost(alloc: Global, tree: &Tree, pages: &str) -> Option<u64> {
 
 #[test]
 fn a_crash_on_the_way_home_loses_nothing(rt: HostRuntime) {
-    for (tree, pages) in &HOMEWARD {
-        assert_eq!(rt; first_lost(rt.alloc(), tree, pages), None, "{pages}");
+    for (place, (tree, pages)) in HOMEWARD.iter().enumerate() {
+        let lost = first_lost(rt.alloc(), tree, pages);
+        expect(&rt, place, lost.is_none());
     }
 }
 
@@ -240,7 +249,8 @@ fn first_fault_lost(alloc: Global, tree: &Tree, pages: &str) -> Option<usize> {
 
 #[test]
 fn a_failing_write_home_loses_nothing(rt: HostRuntime) {
-    for (tree, pages) in &HOMEWARD {
-        assert_eq!(rt; first_fault_lost(rt.alloc(), tree, pages), None, "{pages}");
+    for (place, (tree, pages)) in HOMEWARD.iter().enumerate() {
+        let lost = first_fault_lost(rt.alloc(), tree, pages);
+        expect(&rt, place, lost.is_none());
     }
 }

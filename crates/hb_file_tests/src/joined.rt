@@ -1,7 +1,8 @@
 //! The file of two levels of `openings`, where the log has its four groups in one frame, as a force of four groups writes it. It opens
 //! to the same file; where one group is bad the whole frame is. Offsets and bytes are worked out from `docs/FORMAT.md`.
 
-use crate::openings::{Answer, GOOD, LEFT, SIZE, file, open, opens_again, put, stands};
+use crate::openings::{Answer, GOOD, LEFT, SIZE, file, has_stopped, open, opens, put};
+use crate::rows::expect;
 use hb_disk::MemDisk;
 use hb_restart::OpenFault;
 use std::alloc::Global;
@@ -34,15 +35,16 @@ fn opened(alloc: Global, at: usize, piece: &[u8], failing: u64) -> Option<(Answe
     Some(open(alloc, disk(alloc, at, piece, failing)?))
 }
 
+/// Whether it opens to the file, leaves its pages and opens so again; and with how many device calls.
+fn opens_by(alloc: Global) -> Option<(bool, u64)> {
+    let (_, left) = opened(alloc, 0, &[], u64::MAX)?;
+    let again = disk(alloc, 0, &[], u64::MAX)?;
+    Some((opens(alloc, again, GOOD, &LEFT), left.calls()))
+}
+
 #[test]
 fn a_frame_of_four_groups_opens(rt: HostRuntime) {
-    let (said, disk) = opened(rt.alloc(), 0, &[], u64::MAX).expect(&rt, "memory");
-    assert_eq!(rt; said, GOOD);
-    assert_eq!(rt; disk.calls(), CALLS);
-    assert!(rt; opens_again(rt.alloc(), disk.bytes()));
-    for &(at, want) in &LEFT {
-        assert!(rt; stands(disk.bytes(), at, want), "{at}");
-    }
+    expect(&rt, 0, opens_by(rt.alloc()) == Some((true, CALLS)));
 }
 
 /// The device calls of an opening: two superblocks, two pieces of the frame and the closed gate behind it; then come a sync, a write
@@ -52,10 +54,11 @@ const CALLS: u64 = 19;
 #[test]
 fn a_failing_call_stops_that_opening(rt: HostRuntime) {
     for call in 0..CALLS {
-        let (said, disk) = opened(rt.alloc(), 0, &[], call).expect(&rt, "memory");
-        assert_eq!(rt; said, Err(OpenFault::DiskFault), "{call}");
-        assert_eq!(rt; disk.calls(), call.saturating_add(1));
-        assert!(rt; opens_again(rt.alloc(), disk.bytes()), "{call}");
+        let stops = match opened(rt.alloc(), 0, &[], call) {
+            Some(opened) => has_stopped(rt.alloc(), &opened, call),
+            None => false,
+        };
+        expect(&rt, call as usize, stops);
     }
 }
 
@@ -75,10 +78,14 @@ const CHANGES: [(usize, &[u8], Answer); 8] = [
     (8192, &[0], Err(OpenFault::Unsound { page: 1, rule: 0 })),
 ];
 
+/// What an opening answers then.
+fn answer(alloc: Global, at: usize, piece: &[u8]) -> Option<Answer> {
+    Some(opened(alloc, at, piece, u64::MAX)?.0)
+}
+
 #[test]
 fn a_frame_is_good_as_a_whole(rt: HostRuntime) {
-    for &(at, piece, want) in &CHANGES {
-        let (said, _) = opened(rt.alloc(), at, piece, u64::MAX).expect(&rt, "memory");
-        assert_eq!(rt; said, want, "{at} {piece:?}");
+    for (place, &(at, piece, want)) in CHANGES.iter().enumerate() {
+        expect(&rt, place, answer(rt.alloc(), at, piece) == Some(want));
     }
 }

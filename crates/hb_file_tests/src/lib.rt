@@ -1,4 +1,4 @@
-//! The tests of hb_store, hb_restart and hb_sound: logs, stores and files by hand, with what comes of them.
+//! The tests of hb_pool, hb_store, hb_restart and hb_sound: pools, logs, stores and files by hand, with what comes of them.
 //!
 //! They stand in a crate of their own, since a crate with tests is proved twice. No contract is here.
 #![tactic(auto)]
@@ -29,6 +29,10 @@ mod logs;
 mod openings;
 #[cfg(test)]
 mod orders;
+#[cfg(test)]
+mod pools;
+#[cfg(test)]
+mod rows;
 #[cfg(test)]
 mod sources;
 #[cfg(test)]

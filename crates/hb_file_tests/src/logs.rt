@@ -3,6 +3,7 @@ ghost use Rattle.std.specs.Prelude.{◌≤◌};
 ghost use Rattle.hb_layout.specs.Offsets.{file_size};
 ghost use Rattle.hb_super.specs.Superblocks.{IsLegal};
 
+use crate::rows::expect;
 use crate::stores::{EMPTY, FOUR, NEVER, POINTS, SPLIT, disk};
 use hb_ops::Meta;
 use hb_store::{LogStop, read_log};
@@ -190,11 +191,8 @@ const ROWS: [(bool, Front, &[u8], (usize, char)); 25] = [
 
 #[test]
 fn logs_are_read(rt: HostRuntime) {
-    for &(is_two, front, behind, want) in &ROWS {
-        assert_eq!(rt;
-            told(rt.alloc(), is_two, front, behind),
-            Some(want),
-            "{behind:?}"
-        );
+    for (place, &(is_two, front, behind, want)) in ROWS.iter().enumerate() {
+        let read = told(rt.alloc(), is_two, front, behind);
+        expect(&rt, place, read == Some(want));
     }
 }

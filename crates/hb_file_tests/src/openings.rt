@@ -2,6 +2,8 @@
 //! opened again after a stop before each device call, also where that opening is stopped in its turn, and after each failing
 //! one. Then the same file with a byte or two that are other ones. Offsets and bytes are worked out from `docs/FORMAT.md`.
 
+use crate::drives::PICKS;
+use crate::rows::expect;
 use hb_disk::{Disk, MemDisk, Pick};
 use hb_ops::Meta;
 use hb_restart::{Layout, OpenFault, create, recover};
@@ -146,38 +148,62 @@ fn opened(alloc: Global, failing: u64) -> Option<(Answer, MemDisk)> {
 }
 
 /// Whether these bytes stand at an offset.
-pub(crate) fn stands(bytes: &[u8], at: usize, want: &[u8]) -> bool {
+fn stands(bytes: &[u8], at: usize, want: &[u8]) -> bool {
     match bytes.get(at..) {
         Some(rest) => rest.starts_with(want),
         None => false,
     }
 }
 
+/// Whether these pieces stand at their offsets.
+pub(crate) fn all_stand(bytes: &[u8], pieces: &[(usize, &[u8])]) -> bool {
+    for (at, want) in pieces {
+        if !stands(bytes, *at, want) {
+            return false;
+        }
+    }
+    true
+}
+
 /// Whether bytes open to the file.
-pub(crate) fn opens_again(alloc: Global, bytes: &[u8]) -> bool {
+fn opens_again(alloc: Global, bytes: &[u8]) -> bool {
     match bytes.to_vec(alloc) {
         Ok(bytes) => answer_of(alloc, bytes) == GOOD,
         Err(_) => false,
     }
 }
 
-#[test]
-fn a_file_of_two_levels_opens(rt: HostRuntime) {
-    let (said, disk) = opened(rt.alloc(), NEVER).expect(&rt, "memory");
-    assert_eq!(rt; said, GOOD);
-    assert!(rt; opens_again(rt.alloc(), disk.bytes()));
-    for &(at, want) in &LEFT {
-        assert!(rt; stands(disk.bytes(), at, want), "{at}");
-    }
+/// Other bytes of the file at an offset, what an opening answers then, and what it leaves.
+type Opening = (
+    usize,
+    &'static [u8],
+    Answer,
+    &'static [(usize, &'static [u8])],
+);
+
+const OPENINGS: [Opening; 2] = [
+    (0, &[], GOOD, &LEFT),
+    (12_391, &MERGE, Ok(([3, 2, 3, 2], 3)), &MERGED),
+];
+
+/// Whether an opening answers and leaves that, and answers it again.
+pub(crate) fn opens(alloc: Global, disk: MemDisk, want: Answer, left: &[(usize, &[u8])]) -> bool {
+    let (said, disk) = open(alloc, disk);
+    let is_left = said == want && all_stand(disk.bytes(), left);
+    is_left && open(alloc, disk).0 == want
+}
+
+/// Whether that comes of the file.
+fn opens_so(alloc: Global, row: &Opening) -> Option<bool> {
+    let (at, piece, want, left) = *row;
+    let disk = MemDisk::new(alloc, file(alloc, SIZE, at, piece)?);
+    Some(opens(alloc, disk, want, left))
 }
 
 #[test]
-fn a_file_with_a_merge_opens(rt: HostRuntime) {
-    let bytes = file(rt.alloc(), SIZE, 12_391, &MERGE).expect(&rt, "memory");
-    let (said, disk) = open(rt.alloc(), MemDisk::new(rt.alloc(), bytes));
-    assert_eq!(rt; said, Ok(([3, 2, 3, 2], 3)));
-    for &(at, want) in &MERGED {
-        assert!(rt; stands(disk.bytes(), at, want), "{at}");
+fn files_of_two_levels_open(rt: HostRuntime) {
+    for (place, row) in OPENINGS.iter().enumerate() {
+        expect(&rt, place, opens_so(rt.alloc(), row) == Some(true));
     }
 }
 
@@ -232,12 +258,16 @@ fn first_lost_again(alloc: Global, disk: &MemDisk, pick: Pick) -> Option<u64> {
     None
 }
 
+/// Whether no stop of an opening loses the file, nor one of the opening behind it.
+fn stops_twice(alloc: Global, pick: Pick) -> Option<bool> {
+    let (_, disk) = opened(alloc, NEVER)?;
+    Some(first_lost(alloc, &disk, pick).is_none() && first_lost_again(alloc, &disk, pick).is_none())
+}
+
 #[test]
 fn an_opening_stops_twice(rt: HostRuntime) {
-    let (_, disk) = opened(rt.alloc(), NEVER).expect(&rt, "memory");
-    for &pick in &[Pick::Old, Pick::New, Pick::Noise(165)] {
-        assert_eq!(rt; first_lost(rt.alloc(), &disk, pick), None);
-        assert_eq!(rt; first_lost_again(rt.alloc(), &disk, pick), None);
+    for (place, pick) in PICKS.iter().enumerate() {
+        expect(&rt, place, stops_twice(rt.alloc(), *pick) == Some(true));
     }
 }
 
@@ -245,13 +275,22 @@ fn an_opening_stops_twice(rt: HostRuntime) {
 /// then come a sync, a write for each of the three pages, a read, a sync, a zero, a sync, and the six calls of the superblock.
 const CALLS: u64 = 25;
 
+/// Whether an opening of such a disk stopped at the call of this number, and what is left opens to the file.
+pub(crate) fn has_stopped(alloc: Global, opened: &(Answer, MemDisk), call: u64) -> bool {
+    let (said, disk) = opened;
+    *said == Err(OpenFault::DiskFault)
+        && disk.calls() == call.saturating_add(1)
+        && opens_again(alloc, disk.bytes())
+}
+
 #[test]
 fn a_failing_call_stops_an_opening(rt: HostRuntime) {
     for call in 0..CALLS {
-        let (said, disk) = opened(rt.alloc(), call).expect(&rt, "memory");
-        assert_eq!(rt; said, Err(OpenFault::DiskFault), "{call}");
-        assert_eq!(rt; disk.calls(), call.saturating_add(1));
-        assert!(rt; opens_again(rt.alloc(), disk.bytes()), "{call}");
+        let stops = match opened(rt.alloc(), call) {
+            Some(opened) => has_stopped(rt.alloc(), &opened, call),
+            None => false,
+        };
+        expect(&rt, call as usize, stops);
     }
 }
 
@@ -307,12 +346,16 @@ const DAMAGES: [(usize, usize, &[u8], OpenFault); 12] = [
     (SIZE, 8192, &[0], OpenFault::Unsound { page: 1, rule: 0 }),
 ];
 
+/// What an opening of the file answers then.
+fn damaged(alloc: Global, size: usize, at: usize, piece: &[u8]) -> Option<Answer> {
+    Some(answer_of(alloc, file(alloc, size, at, piece)?))
+}
+
 #[test]
 fn damaged_files_are_refused(rt: HostRuntime) {
-    for &(size, at, piece, fault) in &DAMAGES {
-        let bytes = file(rt.alloc(), size, at, piece).expect(&rt, "memory");
-        let said = answer_of(rt.alloc(), bytes);
-        assert_eq!(rt; said, Err(fault), "{size} {at}");
+    for (place, &(size, at, piece, fault)) in DAMAGES.iter().enumerate() {
+        let said = damaged(rt.alloc(), size, at, piece);
+        expect(&rt, place, said == Some(Err(fault)));
     }
 }
 
@@ -338,8 +381,8 @@ fn made(alloc: Global, byte: u8) -> Option<Answer> {
 #[test]
 fn a_new_file_opens(rt: HostRuntime) {
     // of zeros, and of noise that is an open gate everywhere
-    for &byte in &[0, 165] {
+    for byte in [0, 165] {
         let want = Ok(([1, 1, 1, 1], 0));
-        assert_eq!(rt; made(rt.alloc(), byte), Some(want), "{byte}");
+        expect(&rt, usize::from(byte), made(rt.alloc(), byte) == Some(want));
     }
 }

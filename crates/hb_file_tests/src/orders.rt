@@ -7,6 +7,7 @@ ghost use Rattle.hb_file_tests.specs.Driven.{FewPins, IsDrivenHere, IsPinned};
 
 use crate::fetches::{Told, shown, told};
 use crate::groups::is_of;
+use crate::rows::expect;
 use crate::stores::{FOUR, NEVER, held};
 use hb_disk::{Device, MemDisk, RotDisk};
 use hb_frag::{Leaf, Node, Page};
@@ -82,7 +83,7 @@ pub(crate) fn wide(alloc: Global, rot: Rot) -> Option<Store<RotDisk>>
     }
     match Store::opened(alloc, disk, 0, WIDE) {
         Ok(store) => {
-            let _said = store.meta();
+            store.stands_well();
             Some(store)
         }
         Err(_no_memory) => None,
@@ -161,6 +162,16 @@ fn calls_behind(alloc: Global, is_held: bool, rows: &[(u32, u32, u64)]) -> Optio
     Some(store.into_disk().inner.calls())
 }
 
+/// Whether the disk has had as many calls behind each row as that one says.
+fn are_read(alloc: Global, is_held: bool, rows: &[(u32, u32, u64)]) -> Option<bool> {
+    for (place, (_, _, calls)) in rows.iter().enumerate() {
+        if calls_behind(alloc, is_held, rows.get(..=place)?)? != *calls {
+            return Some(false);
+        }
+    }
+    Some(true)
+}
+
 /// The pages from the one number on up or down to the other are fetched; and how many calls the disk has had then.
 const ORDER: [(u32, u32, u64); 12] = [
     (1, 128, 128),
@@ -198,26 +209,12 @@ const HELD: [(u32, u32, u64); 6] = [
 
 #[test]
 fn the_least_recently_used_page_goes(rt: HostRuntime) {
-    for (place, (_, _, calls)) in ORDER.iter().enumerate() {
-        let rows = ORDER.get(..=place).expect(&rt, "row");
-        assert_eq!(rt;
-            calls_behind(rt.alloc(), false, rows),
-            Some(*calls),
-            "{place}"
-        );
-    }
+    expect(&rt, 0, are_read(rt.alloc(), false, &ORDER) == Some(true));
 }
 
 #[test]
 fn a_pinned_page_never_goes(rt: HostRuntime) {
-    for (place, (_, _, calls)) in HELD.iter().enumerate() {
-        let rows = HELD.get(..=place).expect(&rt, "row");
-        assert_eq!(rt;
-            calls_behind(rt.alloc(), true, rows),
-            Some(*calls),
-            "{place}"
-        );
-    }
+    expect(&rt, 0, are_read(rt.alloc(), true, &HELD) == Some(true));
 }
 
 /// Pins and unpins a page in memory. `None` where it isn't there.
@@ -247,7 +244,7 @@ fn used(alloc: Global) -> Option<(bool, bool, u64)> {
 
 #[test]
 fn a_page_that_was_used_goes_later(rt: HostRuntime) {
-    assert_eq!(rt; used(rt.alloc()), Some((true, false, 130)));
+    expect(&rt, 0, used(rt.alloc()) == Some((true, false, 130)));
 }
 
 /// Whether page 1 is in memory once it was pinned, the others came, it was unpinned, and one more page came; and how many calls the
@@ -265,7 +262,7 @@ fn released(alloc: Global) -> Option<(bool, u64)> {
 
 #[test]
 fn an_unpinned_page_goes_in_its_turn(rt: HostRuntime) {
-    assert_eq!(rt; released(rt.alloc()), Some((false, 132)));
+    expect(&rt, 0, released(rt.alloc()) == Some((false, 132)));
 }
 
 /// Whether page 1 is pinned, a byte of it that goes bad while the last of its disk's 130 calls is made or before, and what the fetch of
@@ -296,11 +293,8 @@ fn met_again(alloc: Global, is_held: bool, at: u64, byte: u8) -> Option<Told> {
 
 #[test]
 fn a_page_that_left_is_tested_again(rt: HostRuntime) {
-    for &(is_held, at, byte, want) in &SPOILED {
-        assert_eq!(rt;
-            met_again(rt.alloc(), is_held, at, byte),
-            Some(want),
-            "{is_held} {at}"
-        );
+    for (place, &(is_held, at, byte, want)) in SPOILED.iter().enumerate() {
+        let met = met_again(rt.alloc(), is_held, at, byte);
+        expect(&rt, place, met == Some(want));
     }
 }

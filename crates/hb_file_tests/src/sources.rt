@@ -1,6 +1,7 @@
 //! Sources that fail, that lack memory, and that give other pages than before.
 ghost use Rattle.std.specs.Prelude.{◌≡◌, None};
 
+use crate::rows::expect;
 use crate::spelled_files::{KeptPages, Outcome, meta_of};
 use hb_frag::Page;
 use hb_sound::{AuditStop, PageStop, Pages, audit};
@@ -64,7 +65,11 @@ fn a_stop_of_the_source_is_told(rt: HostRuntime) {
     for at in 0..12 {
         let failed = stops(rt.alloc(), at, PageStop::Failed, AuditStop::Failed);
         let starved = stops(rt.alloc(), at, PageStop::NoMemory, AuditStop::NoMemory);
-        assert!(rt; failed == Some(true) && starved == Some(true), "{at}");
+        expect(
+            &rt,
+            at as usize,
+            failed == Some(true) && starved == Some(true),
+        );
     }
 }
 
@@ -139,10 +144,8 @@ fn changes(alloc: Global, live: u32, at: u32, then: &str, want: Outcome) -> Opti
 
 #[test]
 fn a_source_may_give_other_pages_than_before(rt: HostRuntime) {
-    for &(live, at, then, want) in &CHANGES {
-        assert!(rt;
-            changes(rt.alloc(), live, at, then, want) == Some(true),
-            "{at} {then}"
-        );
+    for (place, &(live, at, then, want)) in CHANGES.iter().enumerate() {
+        let right = changes(rt.alloc(), live, at, then, want);
+        expect(&rt, place, right == Some(true));
     }
 }

@@ -100,7 +100,7 @@ pub(crate) fn opened(alloc: Global, numbers: MetaNumbers, disk: RotDisk) -> Opti
     };
     match Store::opened(alloc, disk, 0, meta) {
         Ok(store) => {
-            let _said = store.meta();
+            store.stands_well();
             Some(store)
         }
         Err(_no_memory) => None,
@@ -142,7 +142,7 @@ fn know_weight(store: &Store<RotDisk>, id: u32, page: &LivePage)
     requires { in_memory (seen_as store.now) id ≡ Some (Live page.now) }
     ensures { weight_of page.now.frag < 2 ^ 32 }
 {
-    let _ = store.meta();
+    store.stands_well();
 }
 
 /// The page of a number, where it is in memory. `None` for want of memory.

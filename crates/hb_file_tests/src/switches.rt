@@ -9,6 +9,7 @@ use crate::drives::{Tree, file, image_opened, put_all, stand};
 use crate::groups::{DELETE_1, PUT_1, PUT_5};
 use crate::homes::{fails_behind, flush, home};
 use crate::openings::{Answer, SUPER, open};
+use crate::rows::expect;
 use crate::stores::{EMPTY, NEVER, changed, disk, opened};
 use hb_disk::{MemDisk, Pick, RotDisk};
 use hb_store::Store;
@@ -57,8 +58,8 @@ fn is_switched(alloc: Global, row: &Switching) -> Option<bool> {
 
 #[test]
 fn a_turn_begins(rt: HostRuntime) {
-    for row in &SWITCHING {
-        assert!(rt; is_switched(rt.alloc(), row) == Some(true), "{}", row.1);
+    for (place, row) in SWITCHING.iter().enumerate() {
+        expect(&rt, place, is_switched(rt.alloc(), row) == Some(true));
     }
 }
 
@@ -87,14 +88,21 @@ fn is_open(alloc: Global, disk: &MemDisk, call: u64, at: usize, count: usize) ->
     Some(noise == want)
 }
 
+/// Whether it is so behind each of the calls.
+fn are_open(alloc: Global, row: &Switching) -> Option<bool> {
+    let disk = switched(alloc, row)?;
+    for &(call, at, count) in &OPEN {
+        if !is_open(alloc, &disk, call, at, count)? {
+            return Some(false);
+        }
+    }
+    Some(true)
+}
+
 #[test]
 fn nine_calls_begin_a_turn(rt: HostRuntime) {
-    for row in &SWITCHING {
-        let disk = switched(rt.alloc(), row).expect(&rt, "row");
-        for &(call, at, count) in &OPEN {
-            let is_so = is_open(rt.alloc(), &disk, call, at, count);
-            assert!(rt; is_so == Some(true), "{} {call}", row.1);
-        }
+    for (place, row) in SWITCHING.iter().enumerate() {
+        expect(&rt, place, are_open(rt.alloc(), row) == Some(true));
     }
 }
 
@@ -134,8 +142,8 @@ fn first_lost(alloc: Global, row: &Switching) -> Option<u64> {
 
 #[test]
 fn a_crash_while_a_turn_begins_loses_nothing(rt: HostRuntime) {
-    for row in &SWITCHING {
-        assert_eq!(rt; first_lost(rt.alloc(), row), None, "{}", row.1);
+    for (place, row) in SWITCHING.iter().enumerate() {
+        expect(&rt, place, first_lost(rt.alloc(), row).is_none());
     }
 }
 
@@ -152,8 +160,8 @@ fn first_fault_lost(alloc: Global, row: &Switching) -> Option<u64> {
 
 #[test]
 fn a_fault_while_a_turn_begins_loses_nothing(rt: HostRuntime) {
-    for row in &SWITCHING {
-        assert_eq!(rt; first_fault_lost(rt.alloc(), row), None, "{}", row.1);
+    for (place, row) in SWITCHING.iter().enumerate() {
+        expect(&rt, place, first_fault_lost(rt.alloc(), row).is_none());
     }
 }
 
@@ -222,7 +230,9 @@ fn turned(alloc: Global, count: usize) -> Option<MemDisk> {
 
 /// What is on the disk behind so many turns: where the log area of the last one begins, and the length of its first frame; where that
 /// of the next one begins; and where the next one's superblock stands, with its turn.
-const AREAS: [(usize, usize, u8, usize, usize, u8); 5] = [
+type Turned = (usize, usize, u8, usize, usize, u8);
+
+const AREAS: [Turned; 5] = [
     (1, 8192, 0x23, 73_728, 4096, 1),
     (2, 73_728, 0x12, 8192, 0, 2),
     (3, 8192, 0x21, 73_728, 4096, 3),
@@ -256,14 +266,18 @@ fn has_super(bytes: &[u8], at: usize, turn: u8) -> bool {
     }
 }
 
+/// Whether all that is there.
+fn has_turned(alloc: Global, row: Turned) -> Option<bool> {
+    let (count, last, length, next, place, turn) = row;
+    let disk = turned(alloc, count)?;
+    let bytes = disk.bytes();
+    Some(has_frame(bytes, last, length) && is_empty(bytes, next) && has_super(bytes, place, turn))
+}
+
 #[test]
 fn turns_follow_turns(rt: HostRuntime) {
-    for &(count, last, length, next, place, turn) in &AREAS {
-        let disk = turned(rt.alloc(), count).expect(&rt, "row");
-        let bytes = disk.bytes();
-        assert!(rt; has_frame(bytes, last, length), "{count}");
-        assert!(rt; is_empty(bytes, next), "{count}");
-        assert!(rt; has_super(bytes, place, turn), "{count}");
+    for row in &AREAS {
+        expect(&rt, row.0, has_turned(rt.alloc(), *row) == Some(true));
     }
 }
 
@@ -281,7 +295,6 @@ fn opens(alloc: Global, count: usize, records: u64) -> Option<bool> {
 fn files_open_behind_turns(rt: HostRuntime) {
     for (place, &(_, _, records)) in TURNS.iter().enumerate() {
         let count = place.saturating_add(1);
-        let right = opens(rt.alloc(), count, records);
-        assert!(rt; right == Some(true), "{count}");
+        expect(&rt, count, opens(rt.alloc(), count, records) == Some(true));
     }
 }

@@ -1,5 +1,5 @@
 -- The rules that a live page keeps by itself. The number of each is the one that a refusal names.
-use Rattle.std.specs.Prelude.{◌≡◌, ◌≢◌, ℕ, ◌<◌, ◌≤◌, ◌==◌, if◌then◌else◌, List, length, All, AllPairs}
+use Rattle.std.specs.Prelude.{◌≡◌, ◌≢◌, ℕ, ◌*◌, ◌/◌, ◌<◌, ◌≤◌, ◌==◌, nat_le, Bool, if◌then◌else◌, List, length, All, AllPairs}
 use Rattle.std.specs.declared.cmp.Ordering.TheVariants.{Less}
 use Rattle.hb_space.specs.Points.{point_cmp}
 use Rattle.hb_space.specs.Boxes.{Holds}
@@ -13,6 +13,14 @@ use Rattle.hb_frag.specs.Leaves.{Placed, leaves, leaves_of, records_of, weight_o
 -- what a page may weigh
 abbrev pub capacity_of : ℕ → ℕ → ℕ → ℕ
 capacity_of level dcap icap = if level == 0 then dcap else icap
+
+-- a page is thin that weighs a quarter of that, or less: it is to be merged
+abbrev pub is_thin : ℕ → ℕ → Bool
+is_thin weight capacity = nat_le (4 * weight) capacity
+
+-- what two pages may weigh that become one: three quarters of it
+abbrev pub most_merged : ℕ → ℕ
+most_merged capacity = 3 * capacity / 4
 
 -- S3: the level is below the height, and the box has the file's number of attributes
 pub record Fits (page : LivePage) (k height : ℕ) : Type 0 where

@@ -25,6 +25,7 @@
 //! capacity.
 #![tactic(auto)]
 
+mod capacities;
 mod carving;
 mod fragments;
 mod joining;
@@ -36,6 +37,7 @@ mod paths;
 mod records;
 mod threads;
 
+pub use capacities::{capacity_of, is_thin, most_merged};
 pub use carving::{carve, carved_weight};
 pub use fragments::{Frag, Node, replace};
 pub use joining::normal;

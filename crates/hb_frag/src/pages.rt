@@ -3,9 +3,10 @@ ghost use Rattle.std.specs.List.{Contains};
 ghost use Rattle.hb_space.specs.Boxes.{IsArea, Holds};
 ghost use Rattle.hb_frag.specs.Trees.{Tip};
 ghost use Rattle.hb_frag.specs.Leaves.{Placed, leaf_at, with_leaf_at, leaves, child_names, firsts, first_named, siblings_of, weight_of, DirectlyCovers, WellCut};
+ghost use Rattle.hb_frag.specs.Rules.{is_thin};
 ghost use Rattle.hb_frag.specs.Paths.{part_at, with_part, way_to, sibling_way, StaysInside};
 
-use crate::{Frag, Leaf, Pages, Path};
+use crate::{Frag, Leaf, Pages, Path, is_thin};
 use hb_space::{Area, NoMemory, Point};
 use smallvec::SmallVec;
 use std::alloc::Global;
@@ -88,6 +89,14 @@ impl LivePage {
         ensures { IsTrue result ↔ (weight_of self.now.frag ≤ capacity) }
     {
         self.frag.weight_or_most() <= u32::from(capacity)
+    }
+
+    /// Whether the page is thin.
+    #[tactic(auto, using(crate::proofs::Facts::Parts::thin_by_most))]
+    pub fn is_thin(&self, capacity: u16) -> bool
+        ensures { result ≡ is_thin (weight_of self.now.frag) capacity }
+    {
+        is_thin(self.frag.weight_or_most(), capacity)
     }
 
     /// Whether a child leaf names the page.

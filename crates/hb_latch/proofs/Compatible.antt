@@ -65,14 +65,14 @@ with_less true c x y old = tt
 with_less false true x y old = without_right x
 with_less false false x y old = old
 
-pub none_compatible : AreCompatible map.empty
+pub none_compatible : AreCompatible (mode_at map.empty)
 none_compatible actor other page apart = subst (λ (o : Option Mode). IfSome o (λ mode. Beside mode (mode_at map.empty other page))) (sym (map.get-empty latch_cmp (actor, page))) tt
 
 -- the actors of two latches that are each the new one are the same
 same_so : (a b p q : ℕ) → ((a == b) && (p == q)) ≡ true → (a ≡ b) × (p ≡ q)
 same_so a b p q is = let parts = and_parts (a == b) (p == q) is in ((Decides-eqb a b).0 parts.0, (Decides-eqb p q).0 parts.1)
 
-pub taken_compatible : (table : LatchTable) (actor page : ℕ) (mode : Mode) → AreCompatible table → IsGrantable table actor page mode → AreCompatible (map.insert table (actor, page) mode)
+pub taken_compatible : (table : LatchTable) (actor page : ℕ) (mode : Mode) → AreCompatible (mode_at table) → IsGrantable (mode_at table) actor page mode → AreCompatible (mode_at (map.insert table (actor, page) mode))
 taken_compatible table actor page mode old grantable one two place apart =
     let beside : (third : ℕ) → third ≢ actor → place ≡ page → Beside mode (mode_at table third place) = λ third other same. subst (λ (q : ℕ). Beside mode (mode_at table third q)) (sym same) (grantable third other) in
     let made = with_new ((one == actor) && (place == page)) ((two == actor) && (place == page)) (mode_at table one place) (mode_at table two place) mode
@@ -83,7 +83,7 @@ taken_compatible table actor page mode old grantable one two place apart =
     subst (λ (o : Option Mode). Both o (mode_at (map.insert table (actor, page) mode) two place)) (sym (after_insert table actor page one place mode))
     (subst (λ (o : Option Mode). Both (cond ((one == actor) && (place == page)) (Some mode) (mode_at table one place)) o) (sym (after_insert table actor page two place mode)) made)
 
-pub released_compatible : (table : LatchTable) (actor page : ℕ) → AreCompatible table → AreCompatible (map.remove table (actor, page))
+pub released_compatible : (table : LatchTable) (actor page : ℕ) → AreCompatible (mode_at table) → AreCompatible (mode_at (map.remove table (actor, page)))
 released_compatible table actor page old one two place apart =
     let left = with_less ((one == actor) && (place == page)) ((two == actor) && (place == page)) (mode_at table one place) (mode_at table two place) (old one two place apart) in
     subst (λ (o : Option Mode). Both o (mode_at (map.remove table (actor, page)) two place)) (sym (after_remove table actor page one place))

@@ -95,7 +95,7 @@ get_place hs page h i rise in_range is page_is =
     ∙ ap (λ (x : Held). Some x.mode) (is h)
 
 -- who keeps the actor from the page has a latch in the list that conflicts
-against_at : (hs : List Held) (actor page : ℕ) (mode : Mode) (other : ℕ) (d : Held) → KeysRise hs → KeepsFrom (table_of hs) actor page mode other → (i : ℕ) × (i < length hs) × (key_of (get_or hs i d) ≡ (other, page)) × (conflicts actor page mode (get_or hs i d) ≡ true)
+against_at : (hs : List Held) (actor page : ℕ) (mode : Mode) (other : ℕ) (d : Held) → KeysRise hs → KeepsFrom (mode_at (table_of hs)) actor page mode other → (i : ℕ) × (i < length hs) × (key_of (get_or hs i d) ≡ (other, page)) × (conflicts actor page mode (get_or hs i d) ≡ true)
 against_at hs actor page mode other d rise keeps =
     elim (mode_at (table_of hs) other page) as (λ o. mode_at (table_of hs) other page ≡ o → IsSomeAnd o (λ held. ¬ (IsTrue (goes_beside mode held))) → (i : ℕ) × (i < length hs) × (key_of (get_or hs i d) ≡ (other, page)) × (conflicts actor page mode (get_or hs i d) ≡ true)) [
       | None ↦ λ is no. absurd no
@@ -113,7 +113,7 @@ against_at hs actor page mode other d rise keeps =
     ] refl keeps.conflict
 
 -- the first latch that conflicts is of the least actor that is in the way
-least_is : (hs : List Held) (actor page : ℕ) (mode : Mode) (h : Held) → KeysRise hs → find (conflicts actor page mode) hs ≡ Some h → IsLeastInTheWay (table_of hs) actor page mode h.actor
+least_is : (hs : List Held) (actor page : ℕ) (mode : Mode) (h : Held) → KeysRise hs → find (conflicts actor page mode) hs ≡ Some h → IsLeastInTheWay (mode_at (table_of hs)) actor page mode h.actor
 least_is hs actor page mode h rise found =
     let first = first_is (conflicts actor page mode) hs h found in
     let against = against_so actor page mode h first.passes in
@@ -131,7 +131,7 @@ least_is hs actor page mode h rise found =
     }
 
 -- then the actor may not have the page
-refused : (hs : List Held) (actor page : ℕ) (mode : Mode) (h : Held) → KeysRise hs → find (conflicts actor page mode) hs ≡ Some h → ¬ (IsGrantable (table_of hs) actor page mode)
+refused : (hs : List Held) (actor page : ℕ) (mode : Mode) (h : Held) → KeysRise hs → find (conflicts actor page mode) hs ≡ Some h → ¬ (IsGrantable (mode_at (table_of hs)) actor page mode)
 refused hs actor page mode h rise found grantable =
     let first = first_is (conflicts actor page mode) hs h found in
     let against = against_so actor page mode h first.passes in
@@ -140,7 +140,7 @@ refused hs actor page mode h rise found grantable =
     false≢true (sym against.apart ∙ beside)
 
 -- and where none conflicts, it may
-grantable : (hs : List Held) (actor page : ℕ) (mode : Mode) → KeysRise hs → find (conflicts actor page mode) hs ≡ None → IsGrantable (table_of hs) actor page mode
+grantable : (hs : List Held) (actor page : ℕ) (mode : Mode) → KeysRise hs → find (conflicts actor page mode) hs ≡ None → IsGrantable (mode_at (table_of hs)) actor page mode
 grantable hs actor page mode rise none other apart =
     elim (mode_at (table_of hs) other page) as (λ o. mode_at (table_of hs) other page ≡ o → IfSome o (λ held. IsTrue (goes_beside mode held))) [
       | None ↦ λ is. tt
@@ -149,7 +149,7 @@ grantable hs actor page mode rise none other apart =
             | true ↦ λ beside. refl
             | false ↦ λ beside.
                 let x : Held = record { actor = other; page = page; mode = held } in
-                let keeps : KeepsFrom (table_of hs) actor page mode other = record { another = apart; conflict = subst (λ (o : Option Mode). IsSomeAnd o (λ held. ¬ (IsTrue (goes_beside mode held)))) (sym is) (λ t. false≢true (sym beside ∙ t)) } in
+                let keeps : KeepsFrom (mode_at (table_of hs)) actor page mode other = record { another = apart; conflict = subst (λ (o : Option Mode). IsSomeAnd o (λ held. ¬ (IsTrue (goes_beside mode held)))) (sym is) (λ t. false≢true (sym beside ∙ t)) } in
                 let at = against_at hs actor page mode other x rise keeps in
                 sym (none_passes (conflicts actor page mode) hs none at.0 x at.1) ∙ at.3
           ] refl
@@ -160,30 +160,30 @@ abbrev pub named : ℕ → ℕ → Mode → List Held → Option ℕ
 named actor page mode hs = option_map (λ (h : Held). h.actor) (find (conflicts actor page mode) hs)
 
 -- is the least one in the way, and then the page can't be had
-pub named_least : (hs : List Held) (actor page : ℕ) (mode : Mode) (other : ℕ) → KeysRise hs → Some other ≡ named actor page mode hs → IsLeastInTheWay (table_of hs) actor page mode other
+pub named_least : (hs : List Held) (actor page : ℕ) (mode : Mode) (other : ℕ) → KeysRise hs → Some other ≡ named actor page mode hs → IsLeastInTheWay (mode_at (table_of hs)) actor page mode other
 named_least hs actor page mode other rise is =
-    elim (find (conflicts actor page mode) hs) as (λ o. find (conflicts actor page mode) hs ≡ o → Some other ≡ option_map (λ (h : Held). h.actor) o → IsLeastInTheWay (table_of hs) actor page mode other) [
+    elim (find (conflicts actor page mode) hs) as (λ o. find (conflicts actor page mode) hs ≡ o → Some other ≡ option_map (λ (h : Held). h.actor) o → IsLeastInTheWay (mode_at (table_of hs)) actor page mode other) [
       | None ↦ λ found is. cc
-      | Some h ↦ λ found is. let same : h.actor ≡ other = cc in subst (IsLeastInTheWay (table_of hs) actor page mode) same (least_is hs actor page mode h rise found)
+      | Some h ↦ λ found is. let same : h.actor ≡ other = cc in subst (IsLeastInTheWay (mode_at (table_of hs)) actor page mode) same (least_is hs actor page mode h rise found)
     ] refl is
 
-pub named_refused : (hs : List Held) (actor page : ℕ) (mode : Mode) (other : ℕ) → KeysRise hs → Some other ≡ named actor page mode hs → ¬ (IsGrantable (table_of hs) actor page mode)
+pub named_refused : (hs : List Held) (actor page : ℕ) (mode : Mode) (other : ℕ) → KeysRise hs → Some other ≡ named actor page mode hs → ¬ (IsGrantable (mode_at (table_of hs)) actor page mode)
 named_refused hs actor page mode other rise is =
-    elim (find (conflicts actor page mode) hs) as (λ o. find (conflicts actor page mode) hs ≡ o → Some other ≡ option_map (λ (h : Held). h.actor) o → ¬ (IsGrantable (table_of hs) actor page mode)) [
+    elim (find (conflicts actor page mode) hs) as (λ o. find (conflicts actor page mode) hs ≡ o → Some other ≡ option_map (λ (h : Held). h.actor) o → ¬ (IsGrantable (mode_at (table_of hs)) actor page mode)) [
       | None ↦ λ found is. cc
       | Some h ↦ λ found is. refused hs actor page mode h rise found
     ] refl is
 
 -- where nobody is, it can
-pub none_named : (hs : List Held) (actor page : ℕ) (mode : Mode) → KeysRise hs → None ≡ named actor page mode hs → IsGrantable (table_of hs) actor page mode
+pub none_named : (hs : List Held) (actor page : ℕ) (mode : Mode) → KeysRise hs → None ≡ named actor page mode hs → IsGrantable (mode_at (table_of hs)) actor page mode
 none_named hs actor page mode rise is =
-    elim (find (conflicts actor page mode) hs) as (λ o. find (conflicts actor page mode) hs ≡ o → None ≡ option_map (λ (h : Held). h.actor) o → IsGrantable (table_of hs) actor page mode) [
+    elim (find (conflicts actor page mode) hs) as (λ o. find (conflicts actor page mode) hs ≡ o → None ≡ option_map (λ (h : Held). h.actor) o → IsGrantable (mode_at (table_of hs)) actor page mode) [
       | None ↦ λ found is. grantable hs actor page mode rise found
       | Some h ↦ λ found is. cc
     ] refl is
 
 -- and where it can, nobody is
-pub named_nobody : (hs : List Held) (actor page : ℕ) (mode : Mode) → KeysRise hs → IsGrantable (table_of hs) actor page mode → named actor page mode hs ≡ None
+pub named_nobody : (hs : List Held) (actor page : ℕ) (mode : Mode) → KeysRise hs → IsGrantable (mode_at (table_of hs)) actor page mode → named actor page mode hs ≡ None
 named_nobody hs actor page mode rise grantable =
     elim (find (conflicts actor page mode) hs) as (λ o. find (conflicts actor page mode) hs ≡ o → option_map (λ (h : Held). h.actor) o ≡ None) [
       | None ↦ λ found. refl

@@ -18,24 +18,28 @@ LatchTable = map.FinMap latch_cmp Mode
 abbrev pub mode_at : LatchTable → ℕ → ℕ → Option Mode
 mode_at table actor page = map.get table (actor, page)
 
+-- the same with no table: in which mode each actor holds each page
+abbrev pub HeldModes : Type 0
+HeldModes = ℕ → ℕ → Option Mode
+
 -- how many latches the actor holds
 abbrev pub latches_of : LatchTable → ℕ → ℕ
 latches_of table actor = count_by (λ e. e.0.0 == actor) (map.entries table)
 
 -- the actor may have the page in the mode: what others hold there goes beside it
-abbrev pub IsGrantable : LatchTable → ℕ → ℕ → Mode → Type 0
-IsGrantable table actor page mode = (other : ℕ) → other ≢ actor → IfSome (mode_at table other page) (λ held. IsTrue (goes_beside mode held))
+abbrev pub IsGrantable : HeldModes → ℕ → ℕ → Mode → Type 0
+IsGrantable modes actor page mode = (other : ℕ) → other ≢ actor → IfSome (modes other page) (λ held. IsTrue (goes_beside mode held))
 
 -- the other actor keeps the actor from the page in the mode
-pub record KeepsFrom (table : LatchTable) (actor page : ℕ) (mode : Mode) (other : ℕ) : Type 0 where
+pub record KeepsFrom (modes : HeldModes) (actor page : ℕ) (mode : Mode) (other : ℕ) : Type 0 where
   pub another : other ≢ actor
-  pub conflict : IsSomeAnd (mode_at table other page) (λ held. ¬ (IsTrue (goes_beside mode held)))
+  pub conflict : IsSomeAnd (modes other page) (λ held. ¬ (IsTrue (goes_beside mode held)))
 
 -- it is the least one that does
-pub record IsLeastInTheWay (table : LatchTable) (actor page : ℕ) (mode : Mode) (other : ℕ) : Type 0 where
-  pub keeps : KeepsFrom table actor page mode other
-  pub least : (earlier : ℕ) → earlier < other → ¬ (KeepsFrom table actor page mode earlier)
+pub record IsLeastInTheWay (modes : HeldModes) (actor page : ℕ) (mode : Mode) (other : ℕ) : Type 0 where
+  pub keeps : KeepsFrom modes actor page mode other
+  pub least : (earlier : ℕ) → earlier < other → ¬ (KeepsFrom modes actor page mode earlier)
 
 -- the latches of different actors on one page go beside each other
-abbrev pub AreCompatible : LatchTable → Type 0
-AreCompatible table = (actor other page : ℕ) → actor ≢ other → IfSome (mode_at table actor page) (λ mode. IfSome (mode_at table other page) (λ held. IsTrue (goes_beside mode held)))
+abbrev pub AreCompatible : HeldModes → Type 0
+AreCompatible modes = (actor other page : ℕ) → actor ≢ other → IfSome (modes actor page) (λ mode. IfSome (modes other page) (λ held. IsTrue (goes_beside mode held)))

@@ -11,13 +11,14 @@ use crate::Mode;
 use crate::entries::Held;
 use arrayvec::ArrayVec;
 use hb_space::Actor;
+use hb_space::actors::ACTORS;
 use std::marker::Model;
 
 /// How many latches one actor may hold.
 pub const LATCHES: usize = 3;
 
 /// How many latches all actors together hold at most.
-const ROOM: usize = 57;
+const ROOM: usize = LATCHES * ACTORS;
 
 /// The latches that are held.
 #[derive(Debug, Drop)]
@@ -65,8 +66,8 @@ impl Latches {
         requires actor { IsActor actor }
         requires few { latches_of self.old actor < LATCHES }
         requires absent { mode_at self.old actor page ≡ None }
-        ensures granted { IsOk result ↔ IsGrantable self.old actor page mode }
-        ensures refused { IfErr result (λ by. IsLeastInTheWay self.old actor page mode by.0) }
+        ensures granted { IsOk result ↔ IsGrantable (mode_at self.old) actor page mode }
+        ensures refused { IfErr result (λ by. IsLeastInTheWay (mode_at self.old) actor page mode by.0) }
         ensures taken { OnOk result (self.new ≡ map.insert self.old (actor, page) mode) }
         ensures same { OnErr result (self.new ≡ self.old) }
     {
@@ -82,8 +83,8 @@ impl Latches {
     /// holds the page, too.
     pub fn promote(&mut self, actor: Actor, page: u32) -> Result<(), HeldBy>
         requires { mode_at self.old actor page ≡ Some Mode.Update }
-        ensures granted { IsOk result ↔ IsGrantable self.old actor page Mode.Exclusive }
-        ensures refused { IfErr result (λ by. IsLeastInTheWay self.old actor page Mode.Exclusive by.0) }
+        ensures granted { IsOk result ↔ IsGrantable (mode_at self.old) actor page Mode.Exclusive }
+        ensures refused { IfErr result (λ by. IsLeastInTheWay (mode_at self.old) actor page Mode.Exclusive by.0) }
         ensures taken { OnOk result (self.new ≡ map.insert self.old (actor, page) Mode.Exclusive) }
         ensures same { OnErr result (self.new ≡ self.old) }
     {
@@ -121,8 +122,8 @@ impl Latches {
     /// The least other actor whose latch on the page doesn't go beside the mode. `None` where there is none: then the actor may
     /// have the page so.
     pub fn in_the_way(&self, actor: Actor, page: u32, mode: Mode) -> Option<Actor>
-        ensures free { (result ≡ None) ↔ IsGrantable self.now actor page mode }
-        ensures least { IfSome result (IsLeastInTheWay self.now actor page mode) }
+        ensures free { (result ≡ None) ↔ IsGrantable (mode_at self.now) actor page mode }
+        ensures least { IfSome result (IsLeastInTheWay (mode_at self.now) actor page mode) }
     {
         in_the_way(self.held.as_slice(), actor, page, mode)
     }

@@ -6,7 +6,7 @@ ghost use Rattle.std.specs.FinMap as map;
 ghost use Rattle.hb_latch.specs.declared.modes.Mode.{Mode as Manner};
 ghost use Rattle.hb_latch.specs.declared.modes.Mode.TheVariants.{Exclusive};
 ghost use Rattle.hb_latch.specs.Modes.{goes_beside};
-ghost use Rattle.hb_latch.specs.Tables.{LatchTable, mode_at, latches_of, IsGrantable, KeepsFrom, AreCompatible};
+ghost use Rattle.hb_latch.specs.Tables.{HeldModes, LatchTable, mode_at, latches_of, IsGrantable, KeepsFrom, AreCompatible};
 
 /// Whether two modes go beside each other is the same from both sides, and nothing goes beside an
 /// exclusive latch.
@@ -47,17 +47,17 @@ pub fn each_latch_counts_once()
 /// call, too: no latch is held, one is taken or promoted where the others allow it, one is released.
 #[tactic(auto, using(crate::proofs::Compatible::none_compatible, crate::proofs::Compatible::taken_compatible, crate::proofs::Compatible::released_compatible))]
 pub fn compatible_latches_stay_compatible()
-    ensures none { AreCompatible map.empty }
-    ensures taken { (table : LatchTable) (actor page : ℕ) (mode : Manner) → AreCompatible table →
-        IsGrantable table actor page mode → AreCompatible (map.insert table (actor, page) mode) }
-    ensures released { (table : LatchTable) (actor page : ℕ) → AreCompatible table →
-        AreCompatible (map.remove table (actor, page)) }
+    ensures none { AreCompatible (mode_at map.empty) }
+    ensures taken { (table : LatchTable) (actor page : ℕ) (mode : Manner) → AreCompatible (mode_at table) →
+        IsGrantable (mode_at table) actor page mode → AreCompatible (mode_at (map.insert table (actor, page) mode)) }
+    ensures released { (table : LatchTable) (actor page : ℕ) → AreCompatible (mode_at table) →
+        AreCompatible (mode_at (map.remove table (actor, page))) }
 {}
 
 /// An actor may have a page exactly where no other actor keeps it from it.
 #[tactic(auto, using(crate::proofs::Facts::InTheWay::nobody_keeps, crate::proofs::Facts::InTheWay::none_keeps))]
 pub fn what_nobody_keeps_may_be_had()
-    ensures { (table : LatchTable) (actor page : ℕ) (mode : Manner) →
-        IsGrantable table actor page mode
-        ↔ ((other : ℕ) → ¬ (KeepsFrom table actor page mode other)) }
+    ensures { (modes : HeldModes) (actor page : ℕ) (mode : Manner) →
+        IsGrantable modes actor page mode
+        ↔ ((other : ℕ) → ¬ (KeepsFrom modes actor page mode other)) }
 {}

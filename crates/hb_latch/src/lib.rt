@@ -5,7 +5,7 @@
 //! actor and a page to a mode (`specs/Tables.antt`). It doesn't show in which order the latches
 //! were taken, nor where they stand.
 //!
-//! Invariants: each actor that holds a latch is one of the 19, no actor holds more than three, and
+//! Invariants: each that holds a latch is an actor, none holds more than three, and
 //! none holds two on one page. So the table has a fixed size, and no call takes memory.
 #![tactic(auto)]
 

@@ -16,7 +16,7 @@ use hb_space::form::PAGE;
 use std::alloc::{AllocFailed, Global};
 
 /// Why no page image, operation or group was read from the front of bytes.
-#[derive(Clone, Copy, Debug, PartialEq, Eq)]
+#[derive(Clone, Copy, PartialEq, Eq)]
 pub(crate) enum GroupStop {
     /// None stands there.
     Bad,

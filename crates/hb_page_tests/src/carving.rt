@@ -3,7 +3,6 @@
 ghost use Rattle.std.specs.Prelude.{◌≡◌};
 
 use crate::drawn::{frag_text, push_frag};
-use crate::rows::expect_all;
 use crate::spelled::{area_of, frag_of, halves};
 use hb_frag::{Frag, Leaf, Node, carve, carved_weight, normal};
 use hb_space::{Area, Body, NoMemory, Point, Record, Records};
@@ -34,12 +33,7 @@ pub(crate) fn joined(alloc: Global, question: &str) -> Result<String, Fail> {
     Ok(frag_text(alloc, &frag)?)
 }
 
-#[test]
-fn leaves_carved_and_joined(rt: HostRuntime) -> Result<(), Fail> {
-    expect_all(&rt, rt.alloc(), ROWS)
-}
-
-const ROWS: &str = "
+pub(crate) const ROWS: &str = "
 // one attribute: inside, over the upper end, over the lower one
 carve: 0..99 by 40..59 => 3 ( ^1 |0:40| ( ^2 |0:60| ^1 ) )
 carve: 0..99 by 40..200 => 2 ( ^1 |0:40| ^2 )
@@ -75,6 +69,7 @@ normal: ( ( ^8 |0:1| ^7 ) |0:1| ^7 ) => ( ( ^8 |0:1| ^7 ) |0:1| ^7 )
 normal: ( >9 |0:1| >9 ) => ( >9 |0:1| >9 )
 normal: ( ^9 |0:1| >9 ) => ( ^9 |0:1| >9 )
 normal: ( ( 5=a |0:1| >9 ) |0:1| 3=b ) => ( ( 5=a |0:1| >9 ) |0:1| 3=b )
+chain: 100 => true
 ";
 
 fn record_at(value: u64) -> Record {
@@ -95,32 +90,32 @@ fn cut(alloc: Global, left: Frag, right: Frag) -> Result<Frag, NoMemory> {
     Ok(Frag::cut(0, 1, left, right))
 }
 
-// 100 cuts, each with a record on its left side whose point is greater than all behind it.
-fn chain(alloc: Global) -> Result<Frag, NoMemory> {
+// So many cuts, each with a record on its left side whose point is greater than all behind it.
+fn chain(alloc: Global, last: u64) -> Result<Frag, NoMemory> {
     let mut frag = leaf_at(alloc, 0)?;
-    for value in 1..=100 {
+    for value in 1..=last {
         frag = cut(alloc, leaf_at(alloc, value)?, frag)?;
     }
     Ok(frag)
 }
 
-// Whether the tree is one leaf of 101 records, of the points 0 to 100 in their order.
-fn is_in_order(frag: &Frag) -> bool {
+// Whether the tree is one leaf of records, of the points from 0 to the last one in their order.
+fn is_in_order(frag: &Frag, last: u64) -> bool {
     let Node::Tip(Leaf::Records(records)) = &frag.node else {
         return false;
     };
-    for (at, record) in records.as_slice().iter().enumerate() {
+    let records = records.as_slice();
+    for (at, record) in records.iter().enumerate() {
         if record.key.values() != [at as u64].as_slice() {
             return false;
         }
     }
-    records.as_slice().len() == 101
+    records.len() as u64 == last.saturating_add(1)
 }
 
-#[test]
-fn a_chain_joined(rt: HostRuntime) -> Result<(), Fail> {
-    let alloc = rt.alloc();
-    let frag = normal(alloc, chain(alloc)?)?;
-    assert!(rt; is_in_order(&frag));
-    Ok(())
+/// Whether such a chain becomes one leaf: from `LAST`.
+pub(crate) fn chained(alloc: Global, question: &str) -> Result<String, Fail> {
+    let last = question.parse()?;
+    let frag = normal(alloc, chain(alloc, last)?)?;
+    Ok(format!(in alloc; "{}", is_in_order(&frag, last))?)
 }

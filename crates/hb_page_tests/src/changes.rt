@@ -7,7 +7,6 @@ ghost use Rattle.hb_ops.specs.Operations.{OpHas};
 
 use crate::drawn::push_page;
 use crate::operations::{merge_of, op_of};
-use crate::rows::expect_all;
 use crate::spelled::{halves, page_of};
 use hb_frag::LivePage;
 use hb_ops::{ChangeError, Changed, Meta, Op, change, local_rule};
@@ -162,12 +161,7 @@ pub(crate) fn reads(alloc: Global, question: &str) -> Result<String, Fail> {
     Ok(text)
 }
 
-#[test]
-fn changes_rules_and_reads(rt: HostRuntime) -> Result<(), Fail> {
-    expect_all(&rt, rt.alloc(), ROWS)
-}
-
-const ROWS: &str = "
+pub(crate) const ROWS: &str = "
 // an empty page, and the places before, between and behind others
 change: 6 | 0 - | put 3 7=a => page 3 0 0.. : 7=a
 change: 6 | 0 10=a,20=b | put 3 5=c => page 3 0 0.. : 5=c,10=a,20=b

@@ -12,7 +12,6 @@ ghost use Rattle.hb_view.specs.Views.{IsLiveAnd};
 
 use crate::bytes::bytes_of;
 use crate::drawn::push_area;
-use crate::rows::expect_all;
 use crate::spelled::{halves, point_from};
 use crate::views::{push_found, push_leaf, reaches};
 use hb_frag::{LivePage, Page};
@@ -140,12 +139,7 @@ pub(crate) fn asked(alloc: Global, question: &str) -> Result<String, Fail> {
     }
 }
 
-#[test]
-fn views_of_great_pages(rt: HostRuntime) -> Result<(), Fail> {
-    expect_all(&rt, rt.alloc(), ROWS)
-}
-
-const ROWS: &str = "
+pub(crate) const ROWS: &str = "
 // leaf 0 from the left is below all cuts and has 0 alone, leaf 1 has 1 alone, and the last one all from 313 on
 asked: deep ? rule 314 32 => 0 314 ok
 asked: deep ? rule 313 32 => 0 314 5

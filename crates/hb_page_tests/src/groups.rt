@@ -7,7 +7,6 @@ ghost use Rattle.hb_log_codec.specs.Reading.{logged};
 use crate::bytes::bytes_of;
 use crate::drawn::push_page;
 use crate::operations::push_op;
-use crate::rows::expect_all;
 use hb_log_codec::{Group, GroupsError, decode_all, encode};
 use hb_space::{Attributes, NoMemory};
 use std::alloc::Global;
@@ -62,12 +61,7 @@ pub(crate) fn groups(alloc: Global, question: &str) -> Result<String, Fail> {
     read(alloc, &bytes)
 }
 
-#[test]
-fn payloads_and_page_images(rt: HostRuntime) -> Result<(), Fail> {
-    expect_all(&rt, rt.alloc(), ROWS)
-}
-
-const ROWS: &str = "
+pub(crate) const ROWS: &str = "
 groups: @0 => 0
 groups: put => 1; put 1 5=a
 groups: del => 1; del 7 5

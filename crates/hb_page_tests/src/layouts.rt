@@ -1,6 +1,5 @@
 //! Where the parts of files stand, worked out by hand.
 
-use crate::rows::expect_all;
 use crate::spelled::halves;
 use hb_layout::{Meta, file_size, log_start, page_offset, slot_offset};
 use std::alloc::Global;
@@ -47,12 +46,7 @@ pub(crate) fn slot(alloc: Global, question: &str) -> Result<String, Fail> {
     Ok(format!(in alloc; "{}", slot_offset(question.parse()?))?)
 }
 
-#[test]
-fn parts_of_files(rt: HostRuntime) -> Result<(), Fail> {
-    expect_all(&rt, rt.alloc(), OFFSETS)
-}
-
-const OFFSETS: &str = "
+pub(crate) const ROWS: &str = "
 offsets: 1 65536 => 8192 73728 139264 139264 143360
 offsets: 64 65536 => 8192 73728 139264 397312 401408
 offsets: 65536 67108864 => 8192 67117056 134225920 402657280 402661376

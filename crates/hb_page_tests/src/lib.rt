@@ -2,9 +2,10 @@
 //! hb_terms and hb_view, and nothing else. They stand here since a crate with tests is proved twice, once without
 //! them: of this crate nothing is left then.
 //!
-//! A test is a table of rows, each `QUESTION => ANSWER`. The modules `boxes` to `plans` have the
-//! tables of one library each, and what answers their questions. `rows` goes through a table,
-//! `spelled` and `drawn` turn text into pages, boxes and operations, and back.
+//! A table has rows, each `QUESTION => ANSWER`. The modules `boxes` to `plans` have the
+//! tables of one library each, and what answers their questions. `rows` goes through them in the one
+//! test, since each test is proved too. `spelled` and `drawn` turn text into pages, boxes and
+//! operations, and back.
 //!
 //! Each answer was worked out by hand.
 #![tactic(auto)]

@@ -4,7 +4,6 @@ ghost use Rattle.hb_frag.specs.Grammar.{HasSpelling};
 
 use crate::bytes::bytes_of;
 use crate::drawn::push_page;
-use crate::rows::expect_all;
 use hb_frag::Page;
 use hb_page_codec::{PageError, decode, encode};
 use hb_space::NoMemory;
@@ -56,12 +55,7 @@ pub(crate) fn long(alloc: Global, question: &str) -> Result<String, Fail> {
     Ok(format!(in alloc; "{}", text.len())?)
 }
 
-#[test]
-fn pages_are_read_and_written(rt: HostRuntime) -> Result<(), Fail> {
-    expect_all(&rt, rt.alloc(), ROWS)
-}
-
-const ROWS: &str = "
+pub(crate) const ROWS: &str = "
 page: 2 0 0 0 7 => free 7
 page: first => 0 0.. : -
 page: first 1:255 => 255 0.. : -

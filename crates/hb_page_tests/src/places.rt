@@ -6,7 +6,6 @@ ghost use Rattle.hb_frag.specs.Leaves.{WellCut};
 ghost use Rattle.hb_frag.specs.Paths.{StaysInside};
 
 use crate::drawn::{frag_text, push_area, push_frag, push_leaf};
-use crate::rows::expect_all;
 use crate::spelled::{area_of, page_of, path_of, point_from};
 use hb_frag::{Frag, Leaf, LivePage, Path, replace};
 use hb_space::{Area, NoMemory, Point};
@@ -168,12 +167,18 @@ pub(crate) fn weight(alloc: Global, question: &str) -> Result<String, Fail> {
     Ok(format!(in alloc; "{}", page.weight())?)
 }
 
-#[test]
-fn leaves_names_and_parts(rt: HostRuntime) -> Result<(), Fail> {
-    expect_all(&rt, rt.alloc(), ROWS)
+/// The children that the page names, each once.
+pub(crate) fn children(alloc: Global) -> Result<String, Fail> {
+    let page = drawn(alloc)?;
+    let children = page.children(alloc)?;
+    let mut text = "named".to_string(alloc)?;
+    for child in children.as_slice() {
+        write!(text, " {child}")?;
+    }
+    Ok(text)
 }
 
-const ROWS: &str = "
+pub(crate) const ROWS: &str = "
 leaf: 0 0 => ^7 0..49 0..29
 leaf: 49 29 => ^7 0..49 0..29
 leaf: 49 30 => >9 0..49 30..99
@@ -192,6 +197,7 @@ named: 7 => true
 named: 8 => true
 named: 9 => false 0..49 30..99
 named: 5 => false
+children:  => named 7 8
 // parts and weights
 part: L => ( ^7 |1:30| >9 ) 0..49 0..99
 part: RR => ( ^7 |0:80| >9 ) 50..99 60..99
@@ -207,11 +213,3 @@ weight: 0 1=a => 1
 weight: 0 1=a,3=b,5=c => 3
 weight: 1 ( ( ^7 |1:30| >9 ) |0:50| ( ^8 |1:60| ( ^7 |0:80| >9 ) ) ) => 5
 ";
-
-#[test]
-fn pages_that_are_named(rt: HostRuntime) -> Result<(), Fail> {
-    let alloc = rt.alloc();
-    let children = drawn(alloc)?.children(alloc)?;
-    assert_eq!(rt; children.as_slice(), [7, 8].as_slice());
-    Ok(())
-}

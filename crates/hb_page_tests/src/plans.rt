@@ -7,7 +7,6 @@ ghost use Rattle.hb_frag.specs.Rules.{IsNormal};
 ghost use Rattle.hb_ops.specs.Owing.{NamesChildAt};
 
 use crate::operations::push_posted;
-use crate::rows::expect_all;
 use crate::spelled::{halves, page_of, point_from};
 use hb_frag::laws::normal_says_the_same;
 use hb_frag::{Leaf, LivePage, normal};
@@ -172,12 +171,7 @@ pub(crate) fn merge(alloc: Global, question: &str) -> Result<String, Fail> {
     Ok(plan.to_string(alloc)?)
 }
 
-#[test]
-fn plans(rt: HostRuntime) -> Result<(), Fail> {
-    expect_all(&rt, rt.alloc(), PLANS)
-}
-
-const PLANS: &str = "
+pub(crate) const ROWS: &str = "
 post: lone below 32 10 => post . 2 0..39
 post: lone below 32 39 => post . 2 0..39
 post: lone below 32 40 => nothing

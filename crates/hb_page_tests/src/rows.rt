@@ -19,16 +19,19 @@ fn answer(alloc: Global, text: &str) -> Result<String, Fail> {
         "common" => boxes::common(alloc, question),
         "cut" => boxes::cut(alloc, question),
         "outside" => boxes::outside(alloc, question),
+        "copied" => boxes::copied(alloc, question),
         "offsets" => layouts::offsets(alloc, question),
         "slot" => layouts::slot(alloc, question),
         "leaf" => places::leaf(alloc, question),
         "directly" => places::directly(alloc, question),
         "named" => places::named(alloc, question),
+        "children" => places::children(alloc),
         "part" => places::part(alloc, question),
         "holed" => places::holed(alloc, question),
         "weight" => places::weight(alloc, question),
         "carve" => carving::carved(alloc, question),
         "normal" => carving::joined(alloc, question),
+        "chain" => carving::chained(alloc, question),
         "change" => changes::changed(alloc, question),
         "merged" => changes::merged(alloc, question),
         "rule" => changes::rule(alloc, question),
@@ -57,12 +60,34 @@ fn expect(rt: &impl Abort, alloc: Global, row: &str) -> Result<(), Fail> {
     Ok(())
 }
 
-/// Asserts that each row's question has the row's answer.
-pub(crate) fn expect_all(rt: &impl Abort, alloc: Global, rows: &str) -> Result<(), Fail> {
+// Asserts that each row's question has the row's answer.
+fn expect_all(rt: &impl Abort, alloc: Global, rows: &str) -> Result<(), Fail> {
     for row in rows.lines() {
         if !row.is_empty() && !row.starts_with("//") {
             expect(rt, alloc, row)?;
         }
+    }
+    Ok(())
+}
+
+const TABLES: [&str; 11] = [
+    boxes::ROWS,
+    layouts::ROWS,
+    places::ROWS,
+    carving::ROWS,
+    changes::ROWS,
+    pages::ROWS,
+    views::ROWS,
+    great_pages::ROWS,
+    groups::ROWS,
+    splits::ROWS,
+    plans::ROWS,
+];
+
+#[test]
+fn rows_are_answered(rt: HostRuntime) -> Result<(), Fail> {
+    for table in TABLES {
+        expect_all(&rt, rt.alloc(), table)?;
     }
     Ok(())
 }

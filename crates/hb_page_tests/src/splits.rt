@@ -4,7 +4,6 @@ ghost use Rattle.std.specs.Prelude.{◌<◌, ◌^◌};
 ghost use Rattle.hb_frag.specs.Leaves.{weight_of};
 
 use crate::operations::{push_cuts, push_path};
-use crate::rows::expect_all;
 use crate::spelled::{frag_of, page_of, point_from};
 use hb_frag::{Frag, Leaf, LivePage};
 use hb_ops::{Meta, local_rule};
@@ -121,12 +120,7 @@ pub(crate) fn row(alloc: Global, question: &str) -> Result<String, Fail> {
     chosen(alloc, &page)
 }
 
-#[test]
-fn parts_that_leave(rt: HostRuntime) -> Result<(), Fail> {
-    expect_all(&rt, rt.alloc(), PARTS)
-}
-
-const PARTS: &str = "
+pub(crate) const ROWS: &str = "
 // points at the ends of the axes, the same with one more in the middle, and points on a line
 points: 1 5 5, 5 1 5, 5 5 1, 5 5 9, 5 9 5, 9 5 5 => . 0R5,0L9
 points: 1 5 5, 5 1 5, 5 5 1, 5 5 5, 5 5 9, 5 9 5, 9 5 5 => . 0R5,0L9,1R5

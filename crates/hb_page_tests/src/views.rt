@@ -8,7 +8,6 @@ ghost use Rattle.hb_view.specs.Views.{IsLive, IsLiveAnd};
 
 use crate::bytes::bytes_of;
 use crate::drawn::push_area;
-use crate::rows::expect_all;
 use crate::spelled::{halves, point_from};
 use hb_frag::{LivePage, Page};
 use hb_space::form::PAGE;
@@ -112,12 +111,7 @@ pub(crate) fn view(alloc: Global, question: &str) -> Result<String, Fail> {
     }
 }
 
-#[test]
-fn views_tell_of_pages(rt: HostRuntime) -> Result<(), Fail> {
-    expect_all(&rt, rt.alloc(), ROWS)
-}
-
-const ROWS: &str = "
+pub(crate) const ROWS: &str = "
 view: 2 0 0 0 7 ? 0 => free 7
 view: first ? 5 => 0 1 ok: records 0.. none
 view: first @4095 1 ? 5 => no page

@@ -19,6 +19,7 @@ use Rattle.hb_frag.specs.declared.pages.LivePage.{LivePage}
 use Rattle.hb_frag.specs.declared.pages.Page.{Page}
 use Rattle.hb_frag.specs.declared.pages.Page.TheVariants.{Live, Free}
 use Rattle.hb_frag.specs.Leaves.{weight_of}
+use Rattle.hb_frag.specs.Rules.{is_thin}
 use Rattle.hb_layout.specs.declared.meta.Meta.{Meta}
 use Rattle.hb_ops.specs.declared.operations.Op.{Op}
 use Rattle.hb_ops.specs.declared.operations.Op.TheVariants.{Put, Del}
@@ -80,11 +81,11 @@ module _ (v : Page) (meta : Meta) (number session id : ℕ) (next : Next) where
         | inr le ↦ absurd (false≢true (sym is ∙ test.1 le))
       ]
 
-  pub takes_record : (p : List ℕ) (thin : Bool) → IsLiveAnd v (λ page. (found : Record) × StandsThere page p found) → IsLiveAnd v (λ page. thin ≡ nat_le (4 * weight_of (del_page p page).frag) meta.dcap) →
+  pub takes_record : (p : List ℕ) (thin : Bool) → IsLiveAnd v (λ page. (found : Record) × StandsThere page p found) → IsLiveAnd v (λ page. thin ≡ is_thin (weight_of (del_page p page).frag) meta.dcap) →
       NextIs next (at.SessionAwait number replies.Done 0) (Some (Del id p)) (cond thin (record { kind = Merge; level = 1; point = p } ∷ []) []) fates.TakesEffect → DoesIn meta (line_with number session (Delete p)) id v next
   takes_record p thin there tells is =
       let line = line_with number session (Delete p) in
-      so_both v (λ page. (found : Record) × StandsThere page p found) (λ page. thin ≡ nat_le (4 * weight_of (del_page p page).frag) meta.dcap) (λ page. DoesBy meta line id page next)
+      so_both v (λ page. (found : Record) × StandsThere page p found) (λ page. thin ≡ is_thin (weight_of (del_page p page).frag) meta.dcap) (λ page. DoesBy meta line id page next)
       (λ page there same pages free. subst (DoesThere (given_sight meta pages free) line (Delete p) id page)
       (sym (effect_so line next replies.Done (Some (Del id p)) (cond thin (record { kind = Merge; level = 1; point = p } ∷ []) []) is ∙ ap (λ (b : Bool). takes_effect 0 line replies.Done (Some (Del id p)) (cond b (record { kind = Merge; level = 1; point = p } ∷ []) [])) same))
       (only_deletes (given_sight meta pages free) line id page p there.0 there.1).done) there tells

@@ -1,5 +1,5 @@
 -- What is read from the bytes of a page is the row that was asked for.
-use Rattle.std.proofs.Common.{◌≡◌, ◌≢◌, inl, inr, ℕ, zero, suc, ◌+◌, ◌*◌, ◌/◌, ◌<◌, ◌≤◌, Bool, cond, nat_le, nat_lt, max, List, [], ◌∷◌, length, filter, All, Option, Some, None, IsTrue, refl, sym, ap, subst, ◌∙◌, arith, length-append}
+use Rattle.std.proofs.Common.{◌≡◌, ◌≢◌, inl, inr, ℕ, zero, suc, ◌+◌, ◌-◌, ◌<◌, ◌≤◌, Bool, cond, nat_le, nat_lt, max, List, [], ◌∷◌, length, filter, All, Option, Some, None, IsTrue, refl, sym, ap, subst, ◌∙◌, arith, length-append}
 use Rattle.std.specs.List.{slice_get}
 use Rattle.std.specs.Ordering.{is_gt, is_lt}
 use Rattle.std.specs.declared.cmp.Ordering.{Ordering}
@@ -11,6 +11,7 @@ use Rattle.hb_frag.specs.declared.pages.LivePage.{LivePage}
 use Rattle.hb_frag.specs.declared.pages.Page.{Page}
 use Rattle.hb_frag.specs.declared.pages.Page.TheVariants.{Live, Free}
 use Rattle.hb_frag.specs.Leaves.{WellCut, leaf_at, weight_of}
+use Rattle.hb_frag.specs.Rules.{is_thin}
 use Rattle.hb_layout.specs.declared.meta.Meta.{Meta}
 use Rattle.hb_ops.proofs.Facts.Opened.{weight_changed, placed_records}
 use Rattle.hb_ops.specs.Recording.{del_page, joined, put_page}
@@ -21,7 +22,7 @@ use Rattle.hb_space.specs.declared.records.Record.{Record}
 use Rattle.hb_space.proofs.Facts.PointOrder.{exact_points}
 use Rattle.hb_view.specs.Naming.{CountsLeaf}
 use Rattle.hb_view.specs.Views.{FindsAmong, IsLiveAnd, TellsBody}
-use Rattle.hb_point.proofs.Facts.DeletedRecords.{thin_of_many, thin_of_one, weighs_less, weighs_same}
+use Rattle.hb_point.proofs.Facts.DeletedRecords.{weighs_less, weighs_same}
 use Rattle.hb_point.proofs.Facts.RecordLeaves.{length_cond}
 use Rattle.hb_point.specs.Doing.{HasLeafOfRecords, HasRecordsIn, StandsIn}
 
@@ -150,7 +151,7 @@ module _ (v : Page) (meta : Meta) (p : List ℕ) (count weight : ℕ) (room : Bo
 
 module _ (v : Page) (meta : Meta) (p : List ℕ) (count weight : ℕ) (thin : Bool) (has : HasRecordsIn meta v p) (there : IsLiveAnd v (λ page. (found : Record) × StandsThere page p found)) (counts : IsLiveAnd v (λ page. CountsLeaf (leaf_at page p) count)) (weighs : IsLiveAnd v (λ page. weight ≡ weight_of page.frag)) where
   abbrev TellsThin : LivePage → Type 0
-  TellsThin page = thin ≡ nat_le (4 * weight_of (del_page p page).frag) meta.dcap
+  TellsThin page = thin ≡ is_thin (weight_of (del_page p page).frag) meta.dcap
 
   by_count : ((page : LivePage) (has : HasLeafOfRecords meta page p) (found : Record) → StandsThere page p found → count ≡ length has.records.records → weight ≡ weight_of page.frag → TellsThin page) → IsLiveAnd v TellsThin
   by_count f = so_both v (λ page. HasLeafOfRecords meta page p × ((found : Record) × StandsThere page p found)) (λ page. CountsLeaf (leaf_at page p) count × (weight ≡ weight_of page.frag)) TellsThin
@@ -158,10 +159,12 @@ module _ (v : Page) (meta : Meta) (p : List ℕ) (count weight : ℕ) (thin : Bo
       (so_both v (λ page. HasLeafOfRecords meta page p) (λ page. (found : Record) × StandsThere page p found) (λ page. HasLeafOfRecords meta page p × ((found : Record) × StandsThere page p found)) (λ page a b. (a, b)) has there)
       (so_both v (λ page. CountsLeaf (leaf_at page p) count) (λ page. weight ≡ weight_of page.frag) (λ page. CountsLeaf (leaf_at page p) count × (weight ≡ weight_of page.frag)) (λ page a b. (a, b)) counts weighs)
 
-  pub many_thin : 1 < count → (IsTrue thin → weight ≤ meta.dcap / 4 + 1) × (weight ≤ meta.dcap / 4 + 1 → IsTrue thin) → IsLiveAnd v (λ page. thin ≡ nat_le (4 * weight_of (del_page p page).frag) meta.dcap)
-  many_thin more test = by_count (λ page has found there counted weighs.
-      thin_of_many thin weight (weight_of (del_page p page).frag) meta.dcap test (weighs_less meta page p has.records.records has.records.area found has.made has.records.leaf there (subst (λ (n : ℕ). 1 < n) counted more) ∙ sym weighs))
+  pub many_thin : 1 < count → thin ≡ is_thin (weight - 1) meta.dcap → IsLiveAnd v (λ page. thin ≡ is_thin (weight_of (del_page p page).frag) meta.dcap)
+  many_thin more told = by_count (λ page has found there counted weighs.
+      let less = weighs_less meta page p has.records.records has.records.area found has.made has.records.leaf there (subst (λ (n : ℕ). 1 < n) counted more) in
+      let left : weight - 1 ≡ weight_of (del_page p page).frag = omega (arith, less, weighs) in
+      told ∙ ap (λ (n : ℕ). is_thin n meta.dcap) left)
 
-  pub one_thin : count ≤ 1 → (IsTrue thin → weight ≤ meta.dcap / 4) × (weight ≤ meta.dcap / 4 → IsTrue thin) → IsLiveAnd v (λ page. thin ≡ nat_le (4 * weight_of (del_page p page).frag) meta.dcap)
-  one_thin few test = by_count (λ page has found there counted weighs.
-      thin_of_one thin weight (weight_of (del_page p page).frag) meta.dcap test (weighs ∙ weighs_same meta page p has.records.records has.records.area found has.made has.records.leaf there (subst (λ (n : ℕ). n ≤ 1) counted few)))
+  pub one_thin : count ≤ 1 → thin ≡ is_thin weight meta.dcap → IsLiveAnd v (λ page. thin ≡ is_thin (weight_of (del_page p page).frag) meta.dcap)
+  one_thin few told = by_count (λ page has found there counted weighs.
+      told ∙ ap (λ (n : ℕ). is_thin n meta.dcap) (weighs ∙ weighs_same meta page p has.records.records has.records.area found has.made has.records.leaf there (subst (λ (n : ℕ). n ≤ 1) counted few)))

@@ -17,6 +17,7 @@ use Rattle.hb_activity.specs.declared.activities.Activity.TheVariants.{SessionWa
 use Rattle.hb_activity.specs.Deeds.{Deed, moves_to, takes_effect}
 use Rattle.hb_activity.specs.Sights.{Sight}
 use Rattle.hb_frag.specs.Leaves.{weight_of}
+use Rattle.hb_frag.specs.Rules.{is_thin}
 use Rattle.hb_ops.specs.Recording.{del_page, put_page}
 use Rattle.hb_ops.specs.Standing.{StandsThere, StandsNot}
 use Rattle.hb_space.specs.Boxes.{Area}
@@ -65,10 +66,9 @@ pub record FindsNoRoom (s : Sight) (line : Line) (rec : Record) (id : ℕ) (page
   pub full : s.meta.dcap < weight_of (put_page rec page).frag
   pub deed_is : deed ≡ moves_to (SessionSplit line id) []
 
--- A delete of a point that is there, and of one that isn't. A page that weighs a quarter of its capacity then, or less,
--- is thin.
+-- A delete of a point that is there, and of one that isn't. A page that is thin then is to be merged.
 abbrev pub merges_due : LivePage → List ℕ → ℕ → List Job
-merges_due page p capacity = if nat_le (4 * weight_of (del_page p page).frag) capacity then record { kind = Merge; level = 1; point = p } ∷ [] else []
+merges_due page p capacity = if is_thin (weight_of (del_page p page).frag) capacity then record { kind = Merge; level = 1; point = p } ∷ [] else []
 
 pub record Deletes (s : Sight) (line : Line) (p : List ℕ) (id : ℕ) (page : LivePage) (deed : Deed) : Type 0 where
   pub found : Record

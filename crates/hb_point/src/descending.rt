@@ -6,6 +6,7 @@ ghost use Rattle.hb_activity.specs.Deciding.{NextIs, deed_of, given_pages, given
 ghost use Rattle.hb_activity.specs.Walks.{IsSessionWalk};
 ghost use Rattle.hb_activity.specs.declared.deciding.Fate.TheVariants.{GoesOn, TakesEffect};
 ghost use Rattle.hb_frag.specs.Leaves.{leaf_at, weight_of};
+ghost use Rattle.hb_frag.specs.Rules.{is_thin};
 ghost use Rattle.hb_layout.specs.Limits.{IsLayout};
 ghost use Rattle.hb_ops.specs.Recording.{del_page, put_page};
 ghost use Rattle.hb_ops.specs.Sound.{FitsFile};
@@ -19,6 +20,7 @@ ghost use Rattle.hb_view.specs.Naming.{CountsLeaf};
 ghost use Rattle.hb_view.specs.Views.{IsLiveAnd};
 
 use hb_activity::{Activity, Job, JobKind, Next};
+use hb_frag::is_thin;
 use hb_ops::{Meta, Op};
 use hb_set::{Command, Line, Reply};
 use hb_space::form::BMAX;
@@ -172,18 +174,18 @@ fn taken(number: u32, point: Point, id: u32, thin: bool) -> Next
     next
 }
 
-/// Whether the page weighs a quarter of its capacity, or less, once the record of the point is gone. A
-/// leaf without records weighs 1, as one of a single record does.
+/// Whether the page is thin once the record of the point is gone. A leaf without records weighs 1, as one of a single
+/// record does.
 fn is_thin_without(view: &PageView<'_>, meta: &Meta, point: &Point) -> bool
     requires given { HasRecordsIn meta.now view.now point.now }
     requires there { IsLiveAnd view.now (λ page. (found : Entry) × StandsThere page point.now found) }
-    ensures { IsLiveAnd view.now (λ page. result ≡ nat_le (4 * weight_of (del_page point.now page).frag) meta.now.dcap) }
+    ensures { IsLiveAnd view.now (λ page. result ≡ is_thin (weight_of (del_page point.now page).frag) meta.now.dcap) }
 {
-    let quarter = u32::from(meta.dcap / 4);
+    let weight = view.weight();
     if count_at(view, meta, point) > 1 {
-        view.weight() <= quarter + 1
+        is_thin(weight.saturating_sub(1), meta.dcap)
     } else {
-        view.weight() <= quarter
+        is_thin(weight, meta.dcap)
     }
 }
 

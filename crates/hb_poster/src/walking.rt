@@ -6,7 +6,7 @@ ghost use Rattle.hb_activity.specs.Passing.{WalksAbove};
 ghost use Rattle.hb_activity.specs.Sights.{Sight};
 ghost use Rattle.hb_poster.specs.PosterRows.{PosterRow};
 
-use hb_activity::{Activity, Job, JobKind, Latched, Next};
+use hb_activity::{Activity, Job, Latched, Next};
 use hb_frag::Leaf;
 
 /// What a walk comes to at a page: it is over at a page of the job's level whose leaf at the point is a
@@ -28,11 +28,7 @@ pub(crate) fn walk(job: Job, latched: Latched<'_>) -> Next
             }
         }
         (Leaf::Sibling(_), _) => {
-            let owed = Job {
-                kind: JobKind::Post,
-                level: page.level + 1,
-                point: job.point.copy(),
-            };
+            let owed = Job::owed(page.level, job.point.copy());
             Next::adds(onward(job, id), owed)
         }
         (Leaf::Records(_), _) => unreachable!(),

@@ -22,7 +22,7 @@ use std::collections::BTreeMap;
 
 /// A sound file: the turn of its newest superblock, what its log makes of what that says, the pages that the log touches by
 /// their numbers, and how many records it has.
-#[derive(Debug, Drop)]
+#[derive(Drop)]
 pub(crate) struct Found {
     pub(crate) turn: u8,
     pub(crate) meta: Meta,

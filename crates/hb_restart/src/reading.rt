@@ -15,7 +15,7 @@ use hb_super::read_super;
 use std::alloc::Global;
 
 /// The turn of a file's newest superblock, what that says, and what the log makes of the file.
-#[derive(Debug, Drop)]
+#[derive(Drop)]
 pub(crate) struct LogRead {
     pub(crate) turn: u8,
     pub(crate) said: Meta,

@@ -4,8 +4,8 @@ use base.Stored.{Coded-set}
 use Rattle.std.specs.Coded.{coded_ℕ}
 use Rattle.std.proofs.Math.Logic.{∥∥₁_elim}
 use Rattle.hb_activity.specs.declared.jobs.JobKind.{JobKind}
-use Rattle.hb_core.specs.Machines.{Machine}
-use Rattle.hb_core.specs.ProgressLaws.{jobs_of}
+use Rattle.hb_steps.specs.Machines.{Machine}
+use Rattle.hb_steps.specs.ProgressLaws.{jobs_of}
 use Rattle.hb_core.specs.Showing.{RunningCore, ShowsMachine}
 use Rattle.hb_disk.specs.Model.{DiskModel}
 use Rattle.hb_run.specs.Courses.{ShowsLeft}

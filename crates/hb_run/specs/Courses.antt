@@ -6,12 +6,12 @@ use Rattle.hb_outside.specs.Calls.{SinkModel, Puts, PutsOn}
 use Rattle.hb_outside.specs.declared.traits.Failed.{Failed}
 use Rattle.hb_set.specs.declared.scripts.Answered.{Answered}
 use Rattle.hb_text.specs.Output.{answer_text}
-use Rattle.hb_core.specs.declared.outcomes.Outcome.{Outcome}
-use Rattle.hb_core.specs.Machines.{Machine}
-use Rattle.hb_core.specs.Performing.{given_by}
+use Rattle.hb_steps.specs.declared.outcomes.Outcome.{Outcome}
+use Rattle.hb_steps.specs.Machines.{Machine}
+use Rattle.hb_steps.specs.Performing.{given_by}
 use Rattle.hb_core.specs.Runs.{HasRun, left_count}
 use Rattle.hb_core.specs.Showing.{RunningCore, ShowsMachine}
-use Rattle.hb_core.specs.Steps.{StepsTo}
+use Rattle.hb_steps.specs.Steps.{StepsTo}
 use Rattle.hb_core.specs.Touching.{Touches}
 use Rattle.hb_core.specs.Relied.{MayTakeSteps}
 use Rattle.hb_core.specs.Working.{MayStep}

@@ -5,7 +5,7 @@ use Rattle.hb_outside.specs.Calls.{SinkModel}
 use Rattle.hb_set.specs.declared.scripts.Answered.{Answered}
 use Rattle.hb_activity.specs.declared.jobs.JobKind.TheVariants.{Post, Merge}
 use Rattle.hb_core.specs.declared.endings.End.{End}
-use Rattle.hb_core.specs.Machines.{Machine}
+use Rattle.hb_steps.specs.Machines.{Machine}
 use Rattle.hb_core.specs.Runs.{left_count}
 use Rattle.hb_core.specs.Showing.{RunningCore}
 use Rattle.hb_drive.specs.Driving.{DrivesTo}

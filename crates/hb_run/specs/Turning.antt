@@ -1,15 +1,16 @@
 -- What a turn says, who waits for what, and for whom a turn is news.
 use Rattle.std.specs.Prelude.{◌≡◌, ◌≢◌, ◌⊎◌, ◌≤◌, ℕ, ◌+◌, ◌-◌, ◌*◌, ◌/◌, ◌==◌, nat_lt, Bool, true, false, not, List, length, ◌||◌, ◌&&◌, Option, Some, None, is_some, count_by}
 use Rattle.std.specs.List.{slice_get}
+use Rattle.hb_space.specs.declared.actors.TheConstants.{SESSIONS, FLUSHER}
 use Rattle.hb_activity.specs.Queue.{is_of}
 use Rattle.hb_activity.specs.declared.activities.Activity.{Activity}
 use Rattle.hb_activity.specs.declared.jobs.JobKind.{JobKind}
 use Rattle.hb_activity.specs.declared.jobs.JobKind.TheVariants.{Post, Merge}
 use Rattle.hb_wal.specs.Log.{mark_of, room_of}
-use Rattle.hb_core.specs.declared.outcomes.Outcome.{Outcome}
-use Rattle.hb_core.specs.declared.outcomes.Outcome.TheVariants as outcomes
+use Rattle.hb_steps.specs.declared.outcomes.Outcome.{Outcome}
+use Rattle.hb_steps.specs.declared.outcomes.Outcome.TheVariants as outcomes
 use Rattle.hb_core.specs.Showing.{RunningCore}
-use Rattle.hb_core.specs.Taking.{jobs_in_work, worker_for}
+use Rattle.hb_steps.specs.ProgressLaws.{jobs_in_work, worker_for}
 use Rattle.hb_run.specs.Courses.{Course}
 use Rattle.hb_run.specs.declared.turns.Turn.{Turn}
 use Rattle.hb_run.specs.declared.turns.Turn.TheVariants as turns
@@ -101,7 +102,7 @@ WakesAll news before old after new = (pause : Pause) → still_waits pause befor
 -- What an actor does next. It waits only for what hasn't come, if somebody came. It ends where the core is stopped; a session where it has no line left; a
 -- worker where all is done; and who flushes where each line has an answer.
 abbrev pub MayEnd : ℕ → Course → Type 0
-MayEnd actor c = (is_some c.core.stop ≡ true) ⊎ (actor ≤ 16) ⊎ (is_done c ≡ true) ⊎ ((actor ≡ 19) × (c.left ≡ 0))
+MayEnd actor c = (is_some c.core.stop ≡ true) ⊎ (actor ≤ SESSIONS) ⊎ (is_done c ≡ true) ⊎ ((actor ≡ FLUSHER) × (c.left ≡ 0))
 
 abbrev pub GoesWell : ℕ → Next → List ℕ → Course → Type 0
 GoesWell actor nexts.Goes moves c = Unit {0}

@@ -1,10 +1,10 @@
 //! The bells by which threads that wait are woken.
 ghost use Rattle.std.specs.Prelude.{◌≡◌, IfOk, vec_len};
 
-use crate::rosters::ACTORS;
 use crate::turns::{News, Pause};
 use hb_activity::JobKind;
 use hb_space::NoMemory;
+use hb_space::actors::ACTORS;
 use std::alloc::Global;
 use std::sync::Condvar;
 

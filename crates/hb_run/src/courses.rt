@@ -2,15 +2,16 @@
 ghost use Rattle.std.specs.Prelude.{◌≡◌, ◌≢◌, ◌⊎◌, ◌≤◌, ℕ, ◌+◌, ◌-◌, ◌==◌, ◌||◌, ◌&&◌, nat_lt, not, true, false, is_some, length, vec_len, vec_capacity};
 ghost use Rattle.std.specs.List.{slice_get};
 ghost use Rattle.hb_core.specs.CoreSeen.{core_seen, core_disk};
-ghost use Rattle.hb_core.specs.declared.outcomes.Outcome.{Outcome};
-ghost use Rattle.hb_core.specs.Performing.{given_by};
+ghost use Rattle.hb_steps.specs.declared.outcomes.Outcome.{Outcome};
+ghost use Rattle.hb_steps.specs.Performing.{given_by};
 ghost use Rattle.hb_core.specs.Relied.{MayTakeSteps};
+ghost use Rattle.hb_space.specs.declared.actors.TheConstants.{FLUSHER};
 ghost use Rattle.hb_run.specs.Courses.{ShowsLeft, TakesTurn};
 ghost use Rattle.hb_run.specs.declared.turns.Turn.TheVariants as turns;
 ghost use Rattle.hb_run.specs.Turning.{CountsMove, GoesWell, IsNews, WakesAll, is_done, is_due, is_more, is_so, jobs_left, round_of, settled_of, still_waits, turn_of};
 
 use crate::rosters::Roster;
-use crate::seats::{CONSOLIDATOR, FLUSHER, POSTER, Seat};
+use crate::seats::Seat;
 use crate::turns::{News, Next, Pause, Turn, turn_of};
 use hb_activity::JobKind;
 use hb_core::run_laws::runs_go_on;
@@ -19,12 +20,13 @@ use hb_disk::Disk;
 use hb_drive::take_answer;
 use hb_outside::{Failed, Sink};
 use hb_set::Answered;
+use hb_space::actors::{CONSOLIDATOR, FLUSHER, POSTER};
 
 /// So many turns are a round.
 const ROUND: u64 = 256;
 
 /// How far a run is: how many places of its order are settled, and how many rounds of turns were taken.
-#[derive(Debug, Drop)]
+#[derive(Drop)]
 struct Mark {
     settled: u32,
     round: u64,
@@ -181,7 +183,7 @@ impl<D: Disk, K: Sink> Course<D, K> {
     /// What who flushes does while it may not.
     fn rest(&self) -> Next
         requires { (is_some (core_seen self.now.core).stop || (not (self.now.left == 0) && is_due (core_seen self.now.core))) ≡ false }
-        ensures { GoesWell 19 result self.now.roster.moves (course_seen D.model K.model self.now) }
+        ensures { GoesWell FLUSHER result self.now.roster.moves (course_seen D.model K.model self.now) }
     {
         if self.left == 0 {
             return Next::Ends;

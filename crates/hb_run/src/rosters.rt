@@ -3,12 +3,10 @@ ghost use Rattle.std.specs.Prelude.{◌≡◌, ◌≢◌, ◌-◌, true};
 ghost use Rattle.std.specs.List.{slice_get};
 ghost use Rattle.hb_run.specs.Turning.{CountsMove};
 
-use crate::seats::{SESSIONS, Seat};
+use crate::seats::Seat;
 use crate::turns::Next;
 use hb_space::Actor;
-
-/// How many actors there are.
-pub(crate) const ACTORS: usize = 19;
+use hb_space::actors::{ACTORS, SESSIONS};
 
 /// What a run knows of its actors.
 #[derive(Debug, Drop)]

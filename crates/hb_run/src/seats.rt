@@ -3,23 +3,12 @@ ghost use Rattle.hb_space.specs.Actors.{IsActor};
 
 use crate::turns::Next;
 use hb_set::Line;
+use hb_space::actors::{CONSOLIDATOR, FLUSHER, POSTER, SESSIONS};
 use hb_space::{Actor, NoMemory};
 use std::alloc::Global;
 
-/// How many sessions there are: actors 1 to 16.
-pub(crate) const SESSIONS: u8 = 16;
-
-/// The actor that posts.
-pub(crate) const POSTER: Actor = 17;
-
-/// The actor that merges.
-pub(crate) const CONSOLIDATOR: Actor = 18;
-
-/// The actor that flushes.
-pub(crate) const FLUSHER: Actor = 19;
-
 /// One who takes turns.
-#[derive(Debug, Drop)]
+#[derive(Drop)]
 pub(crate) struct Seat {
     pub(crate) actor: Actor,
     ghost may: { IsActor actor },
@@ -46,14 +35,14 @@ pub(crate) fn sessions_of(alloc: Global, lines: &[Line]) -> Result<Vec<Seat>, No
 }
 
 /// A worker, and what it does next in the thread of the caller. One that has a thread of its own has ended there.
-#[derive(Debug, Drop)]
+#[derive(Drop)]
 pub(crate) struct Hand {
     pub(crate) seat: Seat,
     pub(crate) next: Next,
 }
 
 /// The workers, whose turns the caller takes where no thread could be made for them.
-#[derive(Debug, Drop)]
+#[derive(Drop)]
 pub(crate) struct Crew {
     pub(crate) hands: [Hand; 3],
 }

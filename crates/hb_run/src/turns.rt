@@ -7,7 +7,7 @@ use hb_core::Outcome;
 use hb_space::Actor;
 
 /// What a turn came to.
-#[derive(Debug, Drop)]
+#[derive(Drop)]
 pub(crate) enum Turn {
     /// The core is stopped.
     Stopped,

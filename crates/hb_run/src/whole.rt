@@ -2,7 +2,7 @@
 ghost use Rattle.std.specs.Prelude.{◌≡◌, ◌≢◌, ◌≤◌, [], length, vec_capacity};
 ghost use Rattle.hb_core.specs.declared.endings.End.TheVariants as ends;
 ghost use Rattle.hb_core.specs.CoreSeen.{core_seen, core_disk};
-ghost use Rattle.hb_core.specs.Machines.{Machine};
+ghost use Rattle.hb_steps.specs.Machines.{Machine};
 ghost use Rattle.hb_core.specs.Working.{MayStep};
 ghost use Rattle.hb_run.specs.CourseSeen.{course_seen};
 ghost use Rattle.hb_run.specs.Courses.{KeepsRun};

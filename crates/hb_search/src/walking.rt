@@ -9,7 +9,7 @@ ghost use Rattle.hb_set.specs.declared.commands.Command.{Command as OneCommand};
 ghost use Rattle.hb_space.specs.Boxes.{Area as Extent, Holds, IsArea};
 
 use crate::gathering::gather;
-use hb_activity::{Activity, Job, JobKind, Latched, Next};
+use hb_activity::{Activity, Job, Latched, Next};
 use hb_frag::{Leaf, LivePage};
 use hb_set::Line;
 use hb_space::{Area, Areas, NoMemory, Records};
@@ -36,12 +36,8 @@ pub(crate) fn search(
         (Leaf::Records(records), area) => gather(alloc, line, rest, found, records, &area),
         (Leaf::Child(_), _) => Ok(Next::moves(onward(line, id, rest, found))),
         (Leaf::Sibling(_), _) => {
-            let job = Job {
-                kind: JobKind::Post,
-                level: page.level + 1,
-                point: corner,
-            };
-            Ok(Next::adds(onward(line, id, rest, found), job))
+            let owed = Job::owed(page.level, corner);
+            Ok(Next::adds(onward(line, id, rest, found), owed))
         }
     }
 }

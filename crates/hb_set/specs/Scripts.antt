@@ -1,6 +1,7 @@
 -- What holds of every script of a text.
 use Rattle.std.specs.Prelude.{◌≡◌, ℕ, ◌≤◌, List}
 use Rattle.std.specs.List.{AllByRecursion}
+use Rattle.hb_space.specs.declared.actors.TheConstants.{SESSIONS}
 use Rattle.hb_set.specs.declared.scripts.Line.{Line}
 use Rattle.hb_set.specs.Machine.{attributes}
 use Rattle.hb_set.specs.Order.{AreRising}
@@ -10,7 +11,7 @@ pub record IsLineFor (k : ℕ) (l : Line) : Type 0 where
   pub number_from : 1 ≤ l.number
   pub number_to : l.number ≤ 1000000
   pub session_from : 1 ≤ l.session
-  pub session_to : l.session ≤ 16
+  pub session_to : l.session ≤ SESSIONS
   pub attributes_are : attributes l.command ≡ k
 
 -- the command lines of a script over k attributes: their numbers rise

@@ -9,8 +9,8 @@ use std::marker::Model;
 pub struct Line {
     /// The number of the line, from 1.
     pub number: u32,
-    /// The session, 1 to 16.
-    pub session: u8,
+    /// The session.
+    pub session: Actor,
     pub command: Command,
 }
 

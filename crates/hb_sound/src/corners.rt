@@ -8,7 +8,7 @@ use hb_space::{Area, Point};
 use std::marker::Model;
 
 /// A box as its corners, of which values may be changed: so it may hold no point.
-#[derive(Debug, Drop)]
+#[derive(Drop)]
 pub(crate) struct Corners {
     lo: [u64; KMAX],
     hi: [u64; KMAX],

@@ -24,7 +24,7 @@ use hb_space::{Area, NoMemory};
 use std::alloc::Global;
 
 /// What the leaves of the pages name.
-#[derive(Debug, Drop)]
+#[derive(Drop)]
 pub(crate) struct Links {
     /// How often sibling leaves name each page.
     pub(crate) named: Vec<Times>,

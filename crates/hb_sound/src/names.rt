@@ -6,7 +6,7 @@ ghost use Rattle.hb_sound.specs.Facts.{IsCountedOn, names_in, once_more};
 use hb_frag::{Frag, Leaf, Node};
 
 /// How often something was met: it is never asked how often beyond once.
-#[derive(Clone, Copy, Debug, PartialEq, Eq)]
+#[derive(Clone, Copy, PartialEq, Eq)]
 pub(crate) enum Times {
     Never,
     Once,

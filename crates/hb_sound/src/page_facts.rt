@@ -22,7 +22,7 @@ use hb_space::{Area, NoMemory};
 use std::alloc::Global;
 
 /// What is kept of a page in use.
-#[derive(Debug, Drop)]
+#[derive(Drop)]
 pub(crate) struct Seen {
     pub(crate) level: u8,
     pub(crate) area: Area,
@@ -35,7 +35,7 @@ pub(crate) struct Seen {
 }
 
 /// What is kept of a page.
-#[derive(Debug, Drop)]
+#[derive(Drop)]
 pub(crate) enum Fact {
     /// It is in use.
     Live(Seen),

@@ -13,7 +13,7 @@ use hb_frag::{Frag, Leaf, LivePage, Node};
 use hb_space::Area;
 
 /// What of a page's leaves is still to be looked up once all pages were read.
-#[derive(Debug, Drop)]
+#[derive(Drop)]
 pub(crate) enum Rest {
     /// Nothing: it has no sibling leaf, and its child leaves keep rule 8.
     Nothing,

@@ -12,6 +12,7 @@
 //! two corners, and areas and records as lists.
 #![tactic(auto)]
 
+pub mod actors;
 mod areas;
 mod attributes;
 mod bodies;
@@ -23,6 +24,7 @@ mod records;
 mod sides;
 mod threads;
 
+pub use actors::Actor;
 pub use areas::Area;
 pub use attributes::Attributes;
 pub use bodies::Body;
@@ -30,9 +32,6 @@ pub use pieces::Areas;
 pub use points::Point;
 pub use records::{Record, Records};
 use std::alloc::AllocError;
-
-/// Who takes a step: 1 to 16 are sessions, 17 posts, 18 consolidates, 19 flushes.
-pub type Actor = u8;
 
 /// The one answer without a cause: memory was refused.
 pub type NoMemory = AllocError;

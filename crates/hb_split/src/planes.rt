@@ -8,7 +8,7 @@ use hb_space::{NoMemory, Record};
 use std::alloc::Global;
 
 /// A plane that may be taken, with the number of records on its heavier side.
-#[derive(Clone, Copy, Debug)]
+#[derive(Clone, Copy)]
 pub(crate) struct Candidate {
     cut: LeafCut,
     count: u32,

@@ -96,10 +96,10 @@ impl<D: Device> Store<D> {
         }
     }
 
-    /// Whether no group waits: then any time is settled, and else only the oldest group's mark is.
+    /// Whether no group waits.
     fn is_idle(&self) -> bool
         ensures { IsTrue result ↔ ((seen_as self.now).log.groups ≡ []) }
     {
-        self.settled(0) != self.settled(1)
+        self.pending() == 0
     }
 }

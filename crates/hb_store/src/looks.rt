@@ -22,13 +22,23 @@ impl<D: Device> Store<D> {
         self.memory.meta()
     }
 
+    /// A store is well made after each call, and its frames are those of the pages in memory. Who needs to know that, and no
+    /// value, calls this.
+    pub fn stands_well(&self)
+        ensures store { IsStore (D.model self.now.disk).size (seen_as self.now) }
+        ensures tied { IsTied (seen_as self.now) (uses_of self.now) }
+    {
+        // Whoever looks into the memory knows it.
+        let _ = self.memory.meta();
+    }
+
     /// The page of a number, as its bytes. `None` exactly where it isn't in memory. The order of use stays.
     pub fn get(&self, id: u32) -> Option<PageView<'_>>
         ensures page { result ≡ in_memory (seen_as self.now) id }
         ensures store { IsStore (D.model self.now.disk).size (seen_as self.now) }
         ensures tied { IsTied (seen_as self.now) (uses_of self.now) }
     {
-        let _ = self.memory.meta();
+        self.stands_well();
         self.memory.get(id)
     }
 

@@ -39,7 +39,7 @@ pub enum LogStop {
 }
 
 /// Why a group wasn't replayed.
-#[derive(Clone, Copy, Debug, PartialEq, Eq)]
+#[derive(Clone, Copy, PartialEq, Eq)]
 pub(crate) enum ReplayStop {
     /// It is none that may be replayed here.
     Unfit,

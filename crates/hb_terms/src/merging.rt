@@ -2,7 +2,7 @@ ghost use Rattle.std.specs.Prelude.{◌≡◌, ◌<◌, ◌^◌, ℕ, length};
 ghost use Rattle.hb_frag.specs.Leaves.{weight_of, WellCut};
 ghost use Rattle.hb_terms.specs.Merging.{IsMergePlan};
 
-use hb_frag::LivePage;
+use hb_frag::{LivePage, most_merged};
 
 /// What a merge does to two sibling pages of a parent.
 #[derive(Clone, Copy, Debug, PartialEq, Eq)]
@@ -11,7 +11,7 @@ pub enum MergePlan {
     NotContained,
     /// Part of the box of the page to go lies with another parent.
     ManyParents,
-    /// Together they weigh more than three quarters of the capacity.
+    /// Together they weigh more than `most_merged` of the capacity, three quarters of it.
     TooHeavy,
     /// The page to keep takes over what the other one has.
     Merge,
@@ -41,7 +41,7 @@ pub fn merge_plan(
         return MergePlan::ManyParents;
     }
     let merged = u64::from(keep.weight()) - 1 + u64::from(gone.weight());
-    if 4 * merged > 3 * u64::from(cap) {
+    if merged > most_merged(cap) {
         return MergePlan::TooHeavy;
     }
     MergePlan::Merge

@@ -2,14 +2,15 @@
 use Rattle.std.specs.Prelude.{ℕ, ◌+◌, ◌&&◌, ◌==◌, nat_le, if◌then◌else◌, List, [], ◌∷◌, ◌++◌, length, replicate, codes, Option, Some, None, Result, Ok, Err}
 use Rattle.std.specs.List.{slice_split}
 use Rattle.std.specs.Str.{bytes_eq}
+use Rattle.hb_space.specs.declared.actors.TheConstants.{SESSIONS, POSTER, CONSOLIDATOR, FLUSHER}
 use Rattle.hb_text.specs.Numbers.{number_read}
 use Rattle.hb_text.specs.declared.numbers.NumberFault.{NumberFault}
 use Rattle.hb_text.specs.declared.rules.TextRule.{TextRule}
 use Rattle.hb_text.specs.declared.rules.TextRule.TheVariants.{BadStep}
 
--- a session is a number from 1 to 16
+-- a session by its number
 abbrev pub session_number : Result ℕ NumberFault → Option ℕ
-session_number (Ok n) = if nat_le 1 n && nat_le n 16 then Some n else None
+session_number (Ok n) = if nat_le 1 n && nat_le n SESSIONS then Some n else None
 session_number (Err e) = None
 
 abbrev pub session_of : List ℕ → Option ℕ
@@ -18,9 +19,9 @@ session_of word = session_number (number_read word)
 -- an actor is a session, or the poster, the consolidator or the flusher
 abbrev pub actor_of : List ℕ → Option ℕ
 actor_of word =
-    if bytes_eq word (codes "p") then Some 17
-    else (if bytes_eq word (codes "c") then Some 18
-    else (if bytes_eq word (codes "f") then Some 19
+    if bytes_eq word (codes "p") then Some POSTER
+    else (if bytes_eq word (codes "c") then Some CONSOLIDATOR
+    else (if bytes_eq word (codes "f") then Some FLUSHER
     else session_of word))
 
 -- a count of steps is a number from 1 to 1,000,000

@@ -8,14 +8,15 @@ use crate::rules::TextRule;
 use crate::verbs::{Verb, named_verb, wanted_operands};
 use crate::words::Words;
 use hb_set::Command;
-use hb_space::{Attributes, Record};
+use hb_space::actors::SESSIONS;
+use hb_space::{Actor, Attributes, Record};
 
-/// The session that a word names: a number from 1 to 16.
-pub(crate) fn read_session(word: &[u8]) -> Option<u8>
+/// The session that a word names by its number.
+pub(crate) fn read_session(word: &[u8]) -> Option<Actor>
     ensures { result ≡ session_of word.now }
 {
     match read_number(word) {
-        Ok(number) if 1 <= number && number <= 16 => Some(number as u8),
+        Ok(number) if 1 <= number && number <= u64::from(SESSIONS) => Some(number as Actor),
         _ => None,
     }
 }

@@ -10,7 +10,7 @@
 //! spellings, lines and words make the text that they were cut from, and no body that is printed
 //! can be taken for other output.
 //!
-//! Invariants: a line that is read has a number from 1 to 1,000,000 and a session from 1 to 16, its
+//! Invariants: a line that is read has a number from 1 to 1,000,000 and a session from 1 to `SESSIONS`, its
 //! command has as many attributes as were asked for, and lines stand in the order of their numbers.
 #![tactic(auto)]
 

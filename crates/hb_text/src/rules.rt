@@ -17,7 +17,7 @@ pub enum TextRule {
     BadSpacing,
     /// It is a step line where none is allowed, or its words are no steps.
     BadStep,
-    /// The first word is no number from 1 to 16.
+    /// The first word is no session.
     BadSession,
     /// The second word is no verb.
     BadVerb,

@@ -7,14 +7,8 @@ ghost use Rattle.hb_text.specs.Steps.{steps_left};
 use crate::commands::read_session;
 use crate::numbers::read_number;
 use crate::words::Words;
+use hb_space::actors::{CONSOLIDATOR, FLUSHER, POSTER};
 use hb_space::{Actor, NoMemory};
-
-/// The poster, the consolidator and the flusher.
-const POSTER: Actor = 17;
-
-const CONSOLIDATOR: Actor = 18;
-
-const FLUSHER: Actor = 19;
 
 /// The greatest number of steps of a schedule.
 pub(crate) const STEPS: usize = 10_000_000;

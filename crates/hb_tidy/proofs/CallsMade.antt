@@ -17,18 +17,18 @@ use Rattle.hb_store.specs.declared.stops.WriteFault.{WriteFault}
 use Rattle.hb_store.specs.declared.stops.StopWhy.{StopWhy}
 use Rattle.hb_store.specs.declared.stops.StopWhy.TheVariants as whys
 use Rattle.hb_store.specs.declared.stops.Why.{Why}
-use Rattle.hb_core.proofs.Facts.NoDamage.{stays_undamaged}
+use Rattle.hb_steps.proofs.Facts.NoDamage.{stays_undamaged}
 use Rattle.hb_core.proofs.Facts.BetweenCalls.{flusher_stands}
 use Rattle.hb_core.specs.Between.{LetsWait, said_of_flush}
-use Rattle.hb_core.specs.Keeps.{HasSoundFile}
-use Rattle.hb_core.specs.KeptFits.{JobFits}
-use Rattle.hb_core.specs.Machines.{Machine}
+use Rattle.hb_steps.specs.Keeps.{HasSoundFile}
+use Rattle.hb_steps.specs.KeptFits.{JobFits}
+use Rattle.hb_steps.specs.Machines.{Machine}
 use Rattle.hb_core.specs.Showing.{RunningCore, ShowsMachine}
-use Rattle.hb_core.specs.Steps.{StepsTo}
+use Rattle.hb_steps.specs.Steps.{StepsTo}
 use Rattle.hb_core.specs.Touching.{EndsByRead, Touches}
 use Rattle.hb_core.specs.Working.{MayStep}
-use Rattle.hb_core.specs.declared.outcomes.Outcome.{Outcome}
-use Rattle.hb_core.specs.declared.outcomes.Outcome.TheVariants as outcomes
+use Rattle.hb_steps.specs.declared.outcomes.Outcome.{Outcome}
+use Rattle.hb_steps.specs.declared.outcomes.Outcome.TheVariants as outcomes
 use Rattle.hb_tidy.proofs.CountsOfCalls.{same_rises}
 use Rattle.hb_tidy.proofs.Facts.Joined.{may_then}
 use Rattle.hb_tidy.proofs.OneCall.{StandsStill, run_tidied, step_runs, step_taken, still_itself, still_tidied, still_tidied_new, still_waiting}

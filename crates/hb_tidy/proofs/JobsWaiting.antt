@@ -4,8 +4,8 @@ use Rattle.hb_activity.specs.declared.jobs.Job.{Job}
 use Rattle.hb_disk.specs.Model.{DiskModel, IsDisk}
 use Rattle.hb_core.specs.Between.{AddsToQueue, LetsWait}
 use Rattle.hb_core.specs.Counting.{CountsStay}
-use Rattle.hb_core.specs.KeptFits.{JobFits}
-use Rattle.hb_core.specs.Machines.{Machine}
+use Rattle.hb_steps.specs.KeptFits.{JobFits}
+use Rattle.hb_steps.specs.Machines.{Machine}
 use Rattle.hb_core.specs.Showing.{RunningCore}
 use Rattle.hb_core.specs.Working.{MayStep}
 use Rattle.hb_tidy.proofs.CallsMade.{wait_looks}

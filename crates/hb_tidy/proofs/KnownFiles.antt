@@ -8,9 +8,9 @@ use Rattle.hb_ops.proofs.Facts.PageNumberLaws.{page_at-zero}
 use Rattle.hb_ops.specs.Files.{FileState, if_live, live_page, page_at}
 use Rattle.hb_ops.specs.Sound.{IsSound}
 use Rattle.hb_store.specs.States.{StoreState}
-use Rattle.hb_core.proofs.Facts.LaterPages.{last_sound}
-use Rattle.hb_core.specs.Keeps.{HasSoundFile}
-use Rattle.hb_core.specs.Machines.{Files, Machine, current_file}
+use Rattle.hb_steps.proofs.Facts.LaterPages.{last_sound}
+use Rattle.hb_steps.specs.Keeps.{HasSoundFile}
+use Rattle.hb_steps.specs.Machines.{Files, Machine, current_file}
 use Rattle.hb_core.specs.Showing.{RunningCore}
 use Rattle.hb_core.specs.Working.{MayStep}
 use Rattle.hb_tidy.specs.declared.stops.TidyStop.{TidyStop}

@@ -17,14 +17,14 @@ use Rattle.hb_pool.specs.Frames.{Use, clean}
 use Rattle.hb_pool.specs.Pools.{IsPool, in_place, places}
 use Rattle.hb_store.specs.Held.{oldest_dirty}
 use Rattle.hb_store.specs.declared.stops.StopWhy.{StopWhy}
-use Rattle.hb_core.specs.Machines.{Files, Machine, current_file}
-use Rattle.hb_core.specs.ProgressLaws.{HasToDo}
-use Rattle.hb_core.specs.SteppingLaws.{IsAtRest}
+use Rattle.hb_steps.specs.Machines.{Files, Machine, current_file}
+use Rattle.hb_steps.specs.ProgressLaws.{HasToDo}
+use Rattle.hb_steps.specs.SteppingLaws.{IsAtRest}
 use Rattle.hb_core.specs.Between.{PageComes}
-use Rattle.hb_core.specs.Forcing.{FailsToWrite, Flushes, FlushesRest, StaysSo}
-use Rattle.hb_core.specs.Steps.{StepsAs, StepsTo}
-use Rattle.hb_core.specs.declared.outcomes.Outcome.{Outcome}
-use Rattle.hb_core.specs.declared.outcomes.Outcome.TheVariants as outcomes
+use Rattle.hb_steps.specs.Forcing.{FailsToWrite, Flushes, FlushesRest, StaysSo}
+use Rattle.hb_steps.specs.Steps.{StepsAs, StepsTo}
+use Rattle.hb_steps.specs.declared.outcomes.Outcome.{Outcome}
+use Rattle.hb_steps.specs.declared.outcomes.Outcome.TheVariants as outcomes
 use Rattle.hb_tidy.proofs.CleanedPlaces.{AreUnpinned, cleaned_free, cleaned_place, cleaned_pool, fetched_free, fetched_place, oldest_there, some_dirty}
 use Rattle.hb_tidy.proofs.OneCall.{only_silent}
 use Rattle.hb_tidy.proofs.Workers.{flusher_leaves}

@@ -5,24 +5,24 @@ use Rattle.hb_activity.specs.Classes.{Consolidators, class_of}
 use Rattle.hb_activity.specs.Deeds.{Deed}
 use Rattle.hb_activity.specs.declared.activities.Activity.{Activity}
 use Rattle.hb_activity.specs.declared.wanting.Wanted.{Wanted}
-use Rattle.hb_core.proofs.Facts.EachRow.{each_op, each_row}
-use Rattle.hb_core.proofs.Facts.GivenUpLaws.{gives_up_nothing}
-use Rattle.hb_core.proofs.Facts.StepKinds.{FlushesMore, each_kind, ready_kind}
+use Rattle.hb_steps.proofs.Facts.EachRow.{each_op, each_row}
+use Rattle.hb_steps.proofs.Facts.GivenUpLaws.{gives_up_nothing}
+use Rattle.hb_steps.proofs.Facts.StepKinds.{FlushesMore, each_kind, ready_kind}
 use Rattle.hb_core.specs.Counting.{CountsOp, CountsStep, CountsWithin, DidOp}
 use Rattle.hb_core.specs.Counts.{counted}
 use Rattle.hb_outside.specs.Memory.{next_count}
-use Rattle.hb_core.specs.Forcing.{FailsToWrite, ForcesAll}
-use Rattle.hb_core.specs.KeptFits.{HaveClasses}
-use Rattle.hb_core.specs.Machines.{Machine, sight, with_disk}
-use Rattle.hb_core.specs.Performing.{DoesOp, MayDo, Performs}
-use Rattle.hb_core.specs.Rows.{Row}
+use Rattle.hb_steps.specs.Forcing.{FailsToWrite, ForcesAll}
+use Rattle.hb_steps.specs.KeptFits.{HaveClasses}
+use Rattle.hb_steps.specs.Machines.{Machine, sight, with_disk}
+use Rattle.hb_steps.specs.Performing.{DoesOp, MayDo, Performs}
+use Rattle.hb_steps.specs.Rows.{Row}
 use Rattle.hb_core.specs.Showing.{RunningCore, ShowsMachine}
-use Rattle.hb_core.specs.Steps.{StepsTo, Works}
+use Rattle.hb_steps.specs.Steps.{StepsTo, Works}
 use Rattle.hb_core.specs.Relied.{MayRun}
 use Rattle.hb_core.specs.Working.{MayStep}
 use Rattle.hb_core.specs.declared.counts.TidyCounts.{TidyCounts}
-use Rattle.hb_core.specs.declared.outcomes.Outcome.{Outcome}
-use Rattle.hb_core.specs.declared.outcomes.Outcome.TheVariants as outcomes
+use Rattle.hb_steps.specs.declared.outcomes.Outcome.{Outcome}
+use Rattle.hb_steps.specs.declared.outcomes.Outcome.TheVariants as outcomes
 use Rattle.hb_disk.specs.Model.{DiskModel}
 use Rattle.hb_frag.specs.declared.pages.LivePage.{LivePage}
 use Rattle.hb_layout.specs.declared.meta.Meta.{Meta}

@@ -15,8 +15,8 @@ use Rattle.hb_store.specs.States.{IsGoodPage, StoreState}
 use Rattle.hb_store.specs.declared.stops.Why.{Why}
 use Rattle.hb_core.specs.Between.{CopiesPage}
 use Rattle.hb_core.specs.Counting.{CountsStay}
-use Rattle.hb_core.specs.Fetching.{IsBadRead}
-use Rattle.hb_core.specs.Machines.{Files, Machine, current_file}
+use Rattle.hb_steps.specs.Fetching.{IsBadRead}
+use Rattle.hb_steps.specs.Machines.{Files, Machine, current_file}
 use Rattle.hb_core.specs.Showing.{RunningCore}
 use Rattle.hb_core.specs.Working.{MayStep}
 use Rattle.hb_core.specs.declared.copies.CopyStop.{CopyStop}

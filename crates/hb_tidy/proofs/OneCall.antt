@@ -17,25 +17,25 @@ use Rattle.hb_store.specs.States.{StoreState}
 use Rattle.hb_store.specs.declared.stops.StopWhy.TheVariants as whys
 use Rattle.hb_store.specs.declared.stops.Why.{Why}
 use Rattle.hb_store.specs.declared.stops.Why.TheVariants.{Rule, Level, Extent}
-use Rattle.hb_core.proofs.Facts.LogAndStop.{size_stands}
+use Rattle.hb_steps.proofs.Facts.LogAndStop.{size_stands}
 use Rattle.hb_core.proofs.Facts.RunFaults.{no_fault_in}
 use Rattle.hb_core.proofs.Facts.RunSteps.{run_begins, run_of_step, steps_so}
 use Rattle.hb_core.specs.Between.{CopiesPage, LetsWait, PageComes}
 use Rattle.hb_core.specs.BetweenLaws.{LookingKeepsAll, WaitingKeepsAll}
-use Rattle.hb_core.specs.Fetching.{IsBadRead}
-use Rattle.hb_core.specs.KeptFits.{JobFits}
-use Rattle.hb_core.specs.KeptMachine.{CoreKeeps, MachineKeeps}
-use Rattle.hb_core.specs.Machines.{Files, Machine, stopped_for}
-use Rattle.hb_core.specs.Performing.{given_by}
-use Rattle.hb_core.specs.MomentLaws.{IsPrefixImage}
+use Rattle.hb_steps.specs.Fetching.{IsBadRead}
+use Rattle.hb_steps.specs.KeptFits.{JobFits}
+use Rattle.hb_steps.specs.KeptMachine.{CoreKeeps, MachineKeeps}
+use Rattle.hb_steps.specs.Machines.{Files, Machine, stopped_for}
+use Rattle.hb_steps.specs.Performing.{given_by}
+use Rattle.hb_steps.specs.MomentLaws.{IsPrefixImage}
 use Rattle.hb_core.specs.Runs.{ChangesFile, HasRun, HoldsSince, RunningLaws}
 use Rattle.hb_core.specs.Showing.{RunningCore, ShowsMachine}
-use Rattle.hb_core.specs.Steps.{StepsInSequence, StepsTo}
+use Rattle.hb_steps.specs.Steps.{StepsInSequence, StepsTo}
 use Rattle.hb_core.specs.Touching.{Touches}
 use Rattle.hb_core.specs.Working.{MayStep}
 use Rattle.hb_core.specs.declared.copies.CopyStop.{CopyStop}
 use Rattle.hb_core.specs.declared.copies.CopyStop.TheVariants as copies
-use Rattle.hb_core.specs.declared.outcomes.Outcome.{Outcome}
+use Rattle.hb_steps.specs.declared.outcomes.Outcome.{Outcome}
 use Rattle.hb_tidy.proofs.Workers.{IsWorker, LinesStand, is_actor, worker_stands}
 use Rattle.hb_tidy.specs.Looking.{FileStays}
 use Rattle.hb_tidy.specs.Tidying.{HasTidied, KeepsSet, file_now}

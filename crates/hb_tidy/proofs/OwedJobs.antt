@@ -13,7 +13,7 @@ use Rattle.hb_ops.specs.Merging.{FitsMerge}
 use Rattle.hb_ops.specs.Operations.{IsAllowedOn}
 use Rattle.hb_ops.specs.Settled.{HasChild, IsMergeable}
 use Rattle.hb_ops.specs.declared.operations.Op.TheVariants as ops
-use Rattle.hb_core.specs.KeptFits.{JobFits}
+use Rattle.hb_steps.specs.KeptFits.{JobFits}
 use Rattle.hb_core.specs.Showing.{RunningCore}
 use Rattle.hb_tidy.proofs.KnownFiles.{IsFileOf}
 use Rattle.hb_tidy.specs.declared.stops.TidyStop.{TidyStop}

@@ -13,17 +13,17 @@ use Rattle.hb_activity.specs.declared.jobs.JobKind.TheVariants.{Merge, Post}
 use Rattle.hb_disk.specs.Model.{DiskModel}
 use Rattle.hb_lemmas.proofs.Lists.{All-alone, at_place, place_within}
 use Rattle.hb_space.specs.Actors.{IsActor}
-use Rattle.hb_core.proofs.Facts.StillThere.{may_or_not}
-use Rattle.hb_core.proofs.Facts.Ways.{others_stay}
-use Rattle.hb_core.specs.KeptFits.{class_for}
-use Rattle.hb_core.specs.Machines.{Machine}
-use Rattle.hb_core.specs.ProgressLaws.{jobs_of}
+use Rattle.hb_steps.proofs.Facts.StillThere.{may_or_not, others_stay}
+use Rattle.hb_steps.specs.KeptFits.{class_for}
+use Rattle.hb_steps.specs.Machines.{Machine}
+use Rattle.hb_steps.specs.ProgressLaws.{jobs_of}
 use Rattle.hb_core.specs.Showing.{RunningCore, ShowsMachine}
-use Rattle.hb_core.specs.SteppingLaws.{IsAtRest}
-use Rattle.hb_core.specs.Steps.{StepsTo}
-use Rattle.hb_core.specs.Taking.{all_idle, jobs_in_work, worker_for}
+use Rattle.hb_steps.specs.SteppingLaws.{IsAtRest}
+use Rattle.hb_steps.specs.Steps.{StepsTo}
+use Rattle.hb_steps.specs.ProgressLaws.{jobs_in_work, worker_for}
+use Rattle.hb_core.specs.Taking.{all_idle}
 use Rattle.hb_core.specs.Working.{MayStep}
-use Rattle.hb_core.specs.declared.outcomes.Outcome.{Outcome}
+use Rattle.hb_steps.specs.declared.outcomes.Outcome.{Outcome}
 use Rattle.hb_tidy.specs.Going.{AllRest, RestsBut}
 use Rattle.hb_tidy.specs.Working.{OthersRest}
 

@@ -15,14 +15,14 @@ use Rattle.hb_activity.specs.declared.jobs.JobKind.{JobKind}
 use Rattle.hb_activity.specs.declared.jobs.JobKind.TheVariants.{Merge, Post}
 use Rattle.hb_activity.specs.declared.waiting_jobs.TheConstants.{JOBS}
 use Rattle.hb_disk.specs.Model.{DiskModel}
-use Rattle.hb_core.specs.KeptFits.{class_for}
-use Rattle.hb_core.specs.KeptMachine.{MachineKeeps}
-use Rattle.hb_core.specs.Machines.{Machine}
-use Rattle.hb_core.specs.ProgressLaws.{HasToDo}
+use Rattle.hb_steps.specs.KeptFits.{class_for}
+use Rattle.hb_steps.specs.KeptMachine.{MachineKeeps}
+use Rattle.hb_steps.specs.Machines.{Machine}
+use Rattle.hb_steps.specs.ProgressLaws.{HasToDo}
 use Rattle.hb_core.specs.Showing.{RunningCore, ShowsMachine}
-use Rattle.hb_core.specs.SteppingLaws.{IsAtRest}
-use Rattle.hb_core.specs.ProgressLaws.{jobs_of}
-use Rattle.hb_core.specs.Taking.{jobs_in_work, worker_for}
+use Rattle.hb_steps.specs.SteppingLaws.{IsAtRest}
+use Rattle.hb_steps.specs.ProgressLaws.{jobs_of}
+use Rattle.hb_steps.specs.ProgressLaws.{jobs_in_work, worker_for}
 use Rattle.hb_tidy.specs.Working.{HasCause, OthersRest}
 
 -- ---- a queue in which a job of a kind is counted

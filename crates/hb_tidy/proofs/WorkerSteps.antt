@@ -7,14 +7,14 @@ use Rattle.hb_pool.specs.Frames.{Use}
 use Rattle.hb_store.specs.Fetching.{IsCrowdedOut}
 use Rattle.hb_store.specs.States.{StoreState}
 use Rattle.hb_core.specs.Counting.{CountsFlush, CountsStep}
-use Rattle.hb_core.specs.Machines.{Machine}
+use Rattle.hb_steps.specs.Machines.{Machine}
 use Rattle.hb_core.specs.Showing.{RunningCore, ShowsMachine}
-use Rattle.hb_core.specs.Steps.{StepsTo}
-use Rattle.hb_core.specs.ProgressLaws.{jobs_of}
-use Rattle.hb_core.specs.Taking.{worker_for}
+use Rattle.hb_steps.specs.Steps.{StepsTo}
+use Rattle.hb_steps.specs.ProgressLaws.{jobs_of}
+use Rattle.hb_steps.specs.ProgressLaws.{worker_for}
 use Rattle.hb_core.specs.Touching.{Touches}
 use Rattle.hb_core.specs.Working.{MayStep}
-use Rattle.hb_core.specs.declared.outcomes.Outcome.{Outcome}
+use Rattle.hb_steps.specs.declared.outcomes.Outcome.{Outcome}
 use Rattle.hb_tidy.proofs.CallsMade.{Stepped, runs_all}
 use Rattle.hb_tidy.proofs.CountsOfCalls.{one_taken, step_rises}
 use Rattle.hb_tidy.proofs.LiveCounted.{live_by_worker}

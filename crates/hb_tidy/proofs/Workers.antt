@@ -13,16 +13,16 @@ use Rattle.hb_pool.specs.Frames.{clean}
 use Rattle.hb_pool.specs.Pools.{in_place}
 use Rattle.hb_store.specs.Held.{oldest_dirty}
 use Rattle.hb_store.specs.declared.stops.StopWhy.{StopWhy}
-use Rattle.hb_core.proofs.Facts.NextLines.{next_is}
-use Rattle.hb_core.proofs.Facts.StepLines.{LinesAfter, lines_after}
-use Rattle.hb_core.proofs.Facts.Ways.{order_grows}
-use Rattle.hb_core.specs.Forcing.{FailsToWrite, Flushes, FlushesRest, ForcesAll, StaysSo, forced_files}
-use Rattle.hb_core.specs.KeptFits.{LineFits, class_for}
-use Rattle.hb_core.specs.KeptMachine.{MachineKeeps}
-use Rattle.hb_core.specs.Machines.{Files, Machine, current_file}
-use Rattle.hb_core.specs.Steps.{StepsAs, StepsTo}
-use Rattle.hb_core.specs.declared.outcomes.Outcome.{Outcome}
-use Rattle.hb_core.specs.declared.outcomes.Outcome.TheVariants as outcomes
+use Rattle.hb_steps.proofs.Facts.NextLines.{next_is}
+use Rattle.hb_steps.proofs.Facts.StepLines.{LinesAfter, lines_after}
+use Rattle.hb_steps.proofs.Facts.Ways.{order_grows}
+use Rattle.hb_steps.specs.Forcing.{FailsToWrite, Flushes, FlushesRest, ForcesAll, StaysSo, forced_files}
+use Rattle.hb_steps.specs.KeptFits.{LineFits, class_for}
+use Rattle.hb_steps.specs.KeptMachine.{MachineKeeps}
+use Rattle.hb_steps.specs.Machines.{Files, Machine, current_file}
+use Rattle.hb_steps.specs.Steps.{StepsAs, StepsTo}
+use Rattle.hb_steps.specs.declared.outcomes.Outcome.{Outcome}
+use Rattle.hb_steps.specs.declared.outcomes.Outcome.TheVariants as outcomes
 use Rattle.hb_tidy.specs.Looking.{FileStays}
 use Rattle.hb_tidy.specs.Tidying.{file_now}
 

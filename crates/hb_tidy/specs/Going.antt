@@ -7,10 +7,10 @@ use Rattle.hb_disk.specs.Model.{DiskModel}
 use Rattle.hb_layout.specs.declared.meta.Meta.{Meta}
 use Rattle.hb_core.specs.BetweenLaws.{CountsStayWithin, HeightIsCounted, LookingKeepsAll, WaitingKeepsAll}
 use Rattle.hb_core.specs.Counting.{CountsWithin}
-use Rattle.hb_core.specs.Machines.{Machine}
+use Rattle.hb_steps.specs.Machines.{Machine}
 use Rattle.hb_core.specs.Runs.{RunningLaws}
 use Rattle.hb_core.specs.Showing.{RunningCore}
-use Rattle.hb_core.specs.SteppingLaws.{IsAtRest}
+use Rattle.hb_steps.specs.SteppingLaws.{IsAtRest}
 use Rattle.hb_core.specs.Relied.{MayRun}
 use Rattle.hb_core.specs.Working.{MayStep}
 use Rattle.hb_tidy.specs.declared.stops.TidyStop.{TidyStop}

@@ -10,7 +10,7 @@ use Rattle.hb_layout.specs.declared.meta.Meta.{Meta}
 use Rattle.hb_ops.specs.Files.{FileState, live_page}
 use Rattle.hb_ops.specs.Owing.{LacksRoom}
 use Rattle.hb_ops.specs.Settled.{HasChild, IsMergeable}
-use Rattle.hb_core.specs.KeptFits.{JobFits}
+use Rattle.hb_steps.specs.KeptFits.{JobFits}
 use Rattle.hb_tidy.specs.declared.stops.TidyStop.{TidyStop}
 use Rattle.hb_tidy.specs.Finding.{BothLive, OwesGrowth}
 use Rattle.hb_tidy.specs.Placing.{IsNotOwed}

@@ -6,12 +6,12 @@ use Rattle.hb_activity.specs.declared.jobs.JobKind.{JobKind}
 use Rattle.hb_store.specs.Fetching.{IsCrowdedOut}
 use Rattle.hb_store.specs.declared.stops.StopWhy.{StopWhy}
 use Rattle.hb_store.specs.declared.stops.StopWhy.TheVariants as whys
-use Rattle.hb_core.specs.Machines.{Machine}
-use Rattle.hb_core.specs.ProgressLaws.{jobs_of}
+use Rattle.hb_steps.specs.Machines.{Machine}
+use Rattle.hb_steps.specs.ProgressLaws.{jobs_of}
 use Rattle.hb_core.specs.Showing.{RunningCore, ShowsMachine}
-use Rattle.hb_core.specs.Taking.{worker_for}
-use Rattle.hb_core.specs.declared.outcomes.Outcome.{Outcome}
-use Rattle.hb_core.specs.declared.outcomes.Outcome.TheVariants as outcomes
+use Rattle.hb_steps.specs.ProgressLaws.{worker_for}
+use Rattle.hb_steps.specs.declared.outcomes.Outcome.{Outcome}
+use Rattle.hb_steps.specs.declared.outcomes.Outcome.TheVariants as outcomes
 use Rattle.hb_tidy.specs.declared.stops.TidyStop.{TidyStop}
 use Rattle.hb_tidy.specs.declared.stops.TidyStop.TheVariants as stops
 use Rattle.hb_tidy.specs.Going.{AllRest, Goes, MayTidy, RestsBut}

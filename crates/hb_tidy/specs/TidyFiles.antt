@@ -1,10 +1,11 @@
 -- In a file that is tidy nothing is worked off.
 use Rattle.std.specs.Prelude.{◌≡◌, ◌≤◌, List, [], All, Some}
+use Rattle.hb_space.specs.declared.actors.TheConstants.{POSTER, CONSOLIDATOR, FLUSHER}
 use Rattle.hb_activity.specs.declared.activities.Activity.TheVariants as at
 use Rattle.hb_ops.specs.Files.{FileState}
 use Rattle.hb_pool.specs.Frames.{Use}
 use Rattle.hb_pool.specs.Pools.{IsPool}
-use Rattle.hb_core.specs.Machines.{Machine}
+use Rattle.hb_steps.specs.Machines.{Machine}
 use Rattle.hb_tidy.specs.Finding.{IsTidy}
 use Rattle.hb_tidy.specs.Tidying.{file_now}
 use Rattle.hb_tidy.specs.Working.{Comes, Event, Steps, WorksOff, steps_in}
@@ -12,9 +13,9 @@ use Rattle.hb_tidy.specs.Working.{Comes, Event, Steps, WorksOff, steps_in}
 -- A machine that has a tidy file, over a disk that tells, and nothing to work off: no worker has a job in hand, and none waits. No page is
 -- pinned.
 pub record HasTidyFile (s : FileState) (m : Machine) : Type 0 where
-  pub poster : m.activity 17 ≡ at.PosterIdle
-  pub consolidator : m.activity 18 ≡ at.ConsolidatorIdle
-  pub flusher : m.activity 19 ≡ at.Flusher
+  pub poster : m.activity POSTER ≡ at.PosterIdle
+  pub consolidator : m.activity CONSOLIDATOR ≡ at.ConsolidatorIdle
+  pub flusher : m.activity FLUSHER ≡ at.Flusher
   pub jobs : m.jobs ≡ []
   pub file : file_now m ≡ Some s
   pub tidy : IsTidy s
@@ -23,7 +24,7 @@ pub record HasTidyFile (s : FileState) (m : Machine) : Type 0 where
 
 -- a page comes into memory, or a flush makes room for one
 abbrev pub IsNoWork : Event → Type 0
-IsNoWork (Steps actor outcome) = actor ≡ 19
+IsNoWork (Steps actor outcome) = actor ≡ FLUSHER
 IsNoWork (Comes id) = Unit {0}
 IsNoWork other = ⊥
 

@@ -9,13 +9,13 @@ use Rattle.hb_set.specs.Machine.{RecordSet}
 use Rattle.hb_store.specs.declared.stops.StopWhy.TheVariants as whys
 use Rattle.hb_core.specs.declared.counts.TidyCounts.{TidyCounts}
 use Rattle.hb_core.specs.Counting.{CountsWithin}
-use Rattle.hb_core.specs.KeptMachine.{CoreKeeps}
-use Rattle.hb_core.specs.Machines.{Files, Machine, current_file}
+use Rattle.hb_steps.specs.KeptMachine.{CoreKeeps}
+use Rattle.hb_steps.specs.Machines.{Files, Machine, current_file}
 use Rattle.hb_core.specs.Runs.{ChangesFile, CountsFaults, CrashesTo}
 use Rattle.hb_core.specs.Showing.{RunningCore, ShowsMachine}
 use Rattle.hb_core.specs.Taking.{all_idle}
 use Rattle.hb_core.specs.Relied.{MayRun}
-use Rattle.hb_core.specs.Working.{MayGoOn}
+use Rattle.hb_core.specs.Going.{MayGoOn}
 use Rattle.hb_tidy.specs.declared.stops.TidyStop.{TidyStop}
 use Rattle.hb_tidy.specs.declared.stops.TidyStop.TheVariants as stops
 use Rattle.hb_tidy.specs.Finding.{IsTidy, WantsPage}

@@ -1,18 +1,19 @@
 -- What happens to a machine while it is tidied, one thing after the other, and why each of them may.
 use Rattle.std.specs.Prelude.{◌≡◌, ◌≢◌, ◌⊎◌, ℕ, None, ◌+◌, List, [], ◌∷◌, All, IfSome, Result, MatchResult}
+use Rattle.hb_space.specs.declared.actors.TheConstants.{POSTER, CONSOLIDATOR, FLUSHER}
 use Rattle.hb_activity.specs.declared.jobs.Job.{Job}
 use Rattle.hb_store.specs.Fetching.{IsCrowdedOut}
 use Rattle.hb_store.specs.declared.stops.StopWhy.TheVariants as whys
 use Rattle.hb_store.specs.declared.stops.Why.{Why}
 use Rattle.hb_core.specs.Between.{LetsWait, PageComes}
-use Rattle.hb_core.specs.Fetching.{IsBadRead}
-use Rattle.hb_core.specs.Machines.{Machine, stopped_for}
-use Rattle.hb_core.specs.ProgressLaws.{HasToDo}
+use Rattle.hb_steps.specs.Fetching.{IsBadRead}
+use Rattle.hb_steps.specs.Machines.{Machine, stopped_for}
+use Rattle.hb_steps.specs.ProgressLaws.{HasToDo}
 use Rattle.hb_core.specs.Showing.{RunningCore}
-use Rattle.hb_core.specs.Steps.{StepsTo}
-use Rattle.hb_core.specs.SteppingLaws.{IsAtRest}
-use Rattle.hb_core.specs.declared.outcomes.Outcome.{Outcome}
-use Rattle.hb_core.specs.declared.outcomes.Outcome.TheVariants as outcomes
+use Rattle.hb_steps.specs.Steps.{StepsTo}
+use Rattle.hb_steps.specs.SteppingLaws.{IsAtRest}
+use Rattle.hb_steps.specs.declared.outcomes.Outcome.{Outcome}
+use Rattle.hb_steps.specs.declared.outcomes.Outcome.TheVariants as outcomes
 use Rattle.hb_tidy.specs.declared.stops.TidyStop.{TidyStop}
 use Rattle.hb_tidy.specs.Owed.{IsJobOwed}
 use Rattle.hb_tidy.specs.Tidying.{file_now}
@@ -30,7 +31,7 @@ abbrev pub OthersRest : Machine → ℕ → Type 0
 OthersRest m actor = (other : ℕ) → other ≢ actor → IsAtRest (m.activity other)
 
 abbrev pub HasCause : Machine → ℕ → Type 0
-HasCause m actor = (m.stop ≡ None) × ((((actor ≡ 17) ⊎ (actor ≡ 18)) × OthersRest m actor × HasToDo m actor) ⊎ ((actor ≡ 19) × (id : ℕ) × IsCrowdedOut id m.store m.uses))
+HasCause m actor = (m.stop ≡ None) × ((((actor ≡ POSTER) ⊎ (actor ≡ CONSOLIDATOR)) × OthersRest m actor × HasToDo m actor) ⊎ ((actor ≡ FLUSHER) × (id : ℕ) × IsCrowdedOut id m.store m.uses))
 
 -- What each makes of a machine. A step has such a cause, and over a disk that tells the file owes what a job is for. Nothing else changes.
 abbrev pub Happens : Event → Machine → Machine → Type 0

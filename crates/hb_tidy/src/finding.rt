@@ -25,7 +25,7 @@ pub(crate) struct Numbered {
 }
 
 /// A child leaf of a page in use: the page that it names, its box, and what the file says of itself.
-#[derive(Clone, Copy, Debug)]
+#[derive(Clone, Copy)]
 pub(crate) struct ChildLeaf<'a> {
     pub(crate) meta: &'a Meta,
     pub(crate) parent: &'a LivePage,

@@ -6,7 +6,7 @@ ghost use Rattle.hb_ops.specs.Files.{live_page};
 ghost use Rattle.hb_ops.specs.Settled.{HasLoneRoot};
 ghost use Rattle.hb_ops.specs.Sound.{FitsFile};
 ghost use Rattle.hb_core.specs.CoreSeen.{core_seen, core_disk};
-ghost use Rattle.hb_core.specs.KeptFits.{JobFits};
+ghost use Rattle.hb_steps.specs.KeptFits.{JobFits};
 ghost use Rattle.hb_tidy.specs.Finding.{HasGrown, HasPage, IsTidy, IsTidyAt};
 ghost use Rattle.hb_tidy.specs.Going.{MayTidy, MayTidyWhere};
 ghost use Rattle.hb_tidy.specs.Looking.{LooksOver, NothingOf};

@@ -1,10 +1,10 @@
 //! Steps of the workers and flushes, and why they end a tidying.
 ghost use Rattle.std.specs.Prelude.{◌≡◌, ◌⊎◌, ◌+◌, ◌<◌, OnOk};
 ghost use Rattle.hb_core.specs.CoreSeen.{core_seen, core_disk};
-ghost use Rattle.hb_core.specs.Machines.{Machine};
+ghost use Rattle.hb_steps.specs.Machines.{Machine};
 ghost use Rattle.hb_core.specs.Showing.{ShowsMachine};
-ghost use Rattle.hb_core.specs.ProgressLaws.{jobs_of};
-ghost use Rattle.hb_core.specs.Taking.{worker_for};
+ghost use Rattle.hb_steps.specs.ProgressLaws.{jobs_of};
+ghost use Rattle.hb_steps.specs.ProgressLaws.{worker_for};
 ghost use Rattle.hb_tidy.specs.Going.{AllRest, Goes};
 ghost use Rattle.hb_tidy.specs.Looking.{LooksOver, NothingOf};
 ghost use Rattle.hb_tidy.specs.Stepping.{EndsCall, EndsStep, MayMakeRoom, MayTakeStep, MayWorkOff, TakesStep, stop_by};
@@ -14,13 +14,8 @@ use hb_activity::JobKind;
 use hb_core::{Core, DropWhy, Outcome};
 use hb_disk::Device;
 use hb_space::Actor;
+use hb_space::actors::{CONSOLIDATOR, POSTER};
 use hb_store::StopWhy;
-
-/// The actor that posts.
-const POSTER: Actor = 17;
-
-/// The actor that merges.
-const CONSOLIDATOR: Actor = 18;
 
 /// Takes steps of the worker for this kind of jobs until none of these waits or is in work.
 pub(crate) fn work_off<D: Device>(core: &mut Core<D>, kind: JobKind) -> Result<(), TidyStop>

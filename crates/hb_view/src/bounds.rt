@@ -9,7 +9,7 @@ use hb_space::{Area, Point};
 use std::marker::Model;
 
 /// A box as its corners, of which values may be changed.
-#[derive(Debug, Drop)]
+#[derive(Drop)]
 pub(crate) struct Bounds {
     lo: Corner,
     hi: Corner,

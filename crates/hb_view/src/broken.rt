@@ -1,7 +1,7 @@
 //! The first rule that a page in use breaks by itself, told from the bytes of its tree.
 ghost use Rattle.std.specs.Prelude.{◌≡◌, ◌≤◌, ◌↔◌, length, All, IfSome, IsNone, IsTrue};
 ghost use Rattle.hb_frag.specs.Leaves.{IsWellCut, leaves, leaves_of, weight_of};
-ghost use Rattle.hb_frag.specs.Rules.{BelongsAt, IsFilledRight, IsInOrder, IsNormal, IsSiblingTip, capacity_of};
+ghost use Rattle.hb_frag.specs.Rules.{BelongsAt, IsFilledRight, IsInOrder, IsNormal, IsSiblingTip};
 ghost use Rattle.hb_ops.specs.Sound.{FitsFile, BreaksFirst};
 ghost use Rattle.hb_space.specs.Boxes.{Area as Extent};
 ghost use Rattle.hb_view.specs.Limits.{meta_with};
@@ -13,10 +13,11 @@ use crate::roots::{Root, root_of};
 use crate::rules::{behind_cuts, behind_kinds, behind_normal};
 use crate::trees::{Inside, TreeView};
 use crate::walking::weigh;
+use hb_frag::capacity_of;
 use hb_space::form::PAGE;
 
 /// What a file says of itself that a page by itself has to keep.
-#[derive(Clone, Copy, Debug)]
+#[derive(Clone, Copy)]
 pub(crate) struct Limits {
     /// The number of attributes.
     pub k: u8,
@@ -61,13 +62,6 @@ fn is_sibling(tree: &TreeView<'_>) -> bool
     }
 }
 
-// What a page of the level may weigh.
-fn capacity(level: u8, limits: Limits) -> u16
-    ensures { result ≡ capacity_of level limits.dcap limits.icap }
-{
-    if level == 0 { limits.dcap } else { limits.icap }
-}
-
 // Rule 5: leaves of the right kinds, a weight that the page may have, and no lone sibling leaf.
 fn is_filled_right(tree: &TreeView<'_>, level: u8, limits: Limits) -> bool
     requires { weight_of (tree_seen tree.now) ≤ PAGE }
@@ -75,7 +69,7 @@ fn is_filled_right(tree: &TreeView<'_>, level: u8, limits: Limits) -> bool
         limits.dcap limits.icap }
 {
     all_belong(tree, level)
-        && weigh(tree).0 <= u32::from(capacity(level, limits))
+        && weigh(tree).0 <= u32::from(capacity_of(level, limits.dcap, limits.icap))
         && !is_sibling(tree)
 }
 

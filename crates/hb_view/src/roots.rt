@@ -7,7 +7,7 @@ use hb_page_codec::{axis_of, count_of, u32_of, u64_of};
 use hb_space::Attributes;
 
 /// What stands at the root of a tree.
-#[derive(Clone, Copy, Debug)]
+#[derive(Clone, Copy)]
 pub(crate) enum Root<'a> {
     /// A plane. The left side begins at `left`, and the right side behind it.
     Cut {

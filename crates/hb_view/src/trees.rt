@@ -8,7 +8,7 @@ ghost use Rattle.hb_view.specs.Corners.{corners_there};
 use hb_space::Attributes;
 
 /// A tree as the bytes that it stands at the front of.
-#[derive(Clone, Copy, Debug)]
+#[derive(Clone, Copy)]
 pub(crate) struct TreeView<'a> {
     /// The number of attributes.
     pub k: Attributes,
@@ -17,7 +17,7 @@ pub(crate) struct TreeView<'a> {
 }
 
 /// A box and a tree.
-#[derive(Clone, Copy, Debug)]
+#[derive(Clone, Copy)]
 pub(crate) struct Inside<'a> {
     /// The bytes from the box on.
     pub corners: &'a [u8],
@@ -27,7 +27,7 @@ pub(crate) struct Inside<'a> {
 }
 
 /// So many records as the bytes that they stand at the front of.
-#[derive(Clone, Copy, Debug)]
+#[derive(Clone, Copy)]
 pub(crate) struct ListView<'a> {
     pub k: Attributes,
     pub count: u16,

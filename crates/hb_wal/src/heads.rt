@@ -12,7 +12,7 @@ use std::alloc::{AllocError, Global};
 pub(crate) const FRAME: u32 = 5;
 
 /// Why a frame wasn't read.
-#[derive(Debug, Drop)]
+#[derive(Drop)]
 pub(crate) enum FrameStop {
     BadLength,
     NoMemory,

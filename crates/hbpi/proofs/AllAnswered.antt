@@ -4,9 +4,9 @@ use Rattle.std.specs.Prelude.{◌==◌, IsTrue, count_by}
 use Rattle.std.specs.List.{AllByRecursion}
 use Rattle.std.proofs.lemmas.List.Elements.{All-from_recursion, All-weaker}
 use Rattle.std.proofs.lemmas.List.Sums.{sum_by-cons}
-use Rattle.hb_core.specs.Machines.{Machine}
+use Rattle.hb_steps.specs.Machines.{Machine}
 use Rattle.hb_core.specs.Runs.{without_clock}
-use Rattle.hb_core.specs.SteppingLaws.{StepsGoOn}
+use Rattle.hb_steps.specs.SteppingLaws.{StepsGoOn}
 use Rattle.hb_point.specs.SessionRows.{is_answered}
 use Rattle.hb_set.specs.declared.scripts.Answered.{Answered}
 use Rattle.hb_set.specs.declared.scripts.Line.{Line}

@@ -2,9 +2,9 @@
 use Rattle.std.proofs.Common.{◌≡◌, ℕ, List, [], ◌∷◌, IfSome}
 use Rattle.std.specs.List.{AllByRecursion}
 use Rattle.std.proofs.lemmas.List.Elements.{All-from_recursion, recursion_from_All}
-use Rattle.hb_core.specs.KeptFits.{CommandFits, LineFits}
-use Rattle.hb_core.specs.Machines.{Machine}
-use Rattle.hb_core.specs.SteppingLaws.{IsBegun, IsBegunOver}
+use Rattle.hb_steps.specs.KeptFits.{CommandFits, LineFits}
+use Rattle.hb_steps.specs.Machines.{Machine}
+use Rattle.hb_steps.specs.SteppingLaws.{IsBegun, IsBegunOver}
 use Rattle.hb_core.specs.Taking.{begun_core}
 use Rattle.hb_core.specs.Working.{MayStep}
 use Rattle.hb_disk.specs.Model.{DiskModel}

@@ -1,16 +1,16 @@
 -- A line is `full` by its cause: at a machine on the way its page lacks the point and room, and no page is free.
 use Rattle.std.proofs.Common.{◌≡◌, ℕ, List, [], ◌∷◌, ◌++◌, All, refl, sym, ap, subst, ◌∙◌, append-nil, append_assoc}
 use Rattle.std.proofs.lemmas.List.Elements.{All-head, All-nil, All-tail, All-weaker}
-use Rattle.hb_core.specs.CauseLaws.{FullByCause, SplitFindsNoPage}
-use Rattle.hb_core.specs.KeptMachine.{MachineKeeps}
-use Rattle.hb_core.specs.Laws.{AnswersAreTimed}
-use Rattle.hb_core.specs.MachineLaws.{MachineStaysKept}
-use Rattle.hb_core.specs.Machines.{Machine}
-use Rattle.hb_core.specs.Performing.{given_by}
-use Rattle.hb_core.specs.Steps.{StepsInSequence, StepsTo}
-use Rattle.hb_core.specs.SteppingLaws.{BeginningKeeps}
-use Rattle.hb_core.specs.declared.outcomes.Outcome.{Outcome}
-use Rattle.hb_core.specs.declared.outcomes.Outcome.TheVariants as outcomes
+use Rattle.hb_steps.specs.CauseLaws.{FullByCause, SplitFindsNoPage}
+use Rattle.hb_steps.specs.KeptMachine.{MachineKeeps}
+use Rattle.hb_steps.specs.Laws.{AnswersAreTimed}
+use Rattle.hb_steps.specs.MachineLaws.{MachineStaysKept}
+use Rattle.hb_steps.specs.Machines.{Machine}
+use Rattle.hb_steps.specs.Performing.{given_by}
+use Rattle.hb_steps.specs.Steps.{StepsInSequence, StepsTo}
+use Rattle.hb_steps.specs.SteppingLaws.{BeginningKeeps}
+use Rattle.hb_steps.specs.declared.outcomes.Outcome.{Outcome}
+use Rattle.hb_steps.specs.declared.outcomes.Outcome.TheVariants as outcomes
 use Rattle.hb_space.specs.Actors.{IsActor}
 use Rattle.hb_lemmas.proofs.Lists.{All-alone, All-parts}
 use Rattle.hb_set.specs.declared.commands.Reply.{Reply}

@@ -1,7 +1,7 @@
 -- How a run ends that has counted its replies, of which a core was made.
 use Rattle.std.proofs.Common.{◌≡◌, ◌≢◌, inl, inr, ℕ, List, [], None, refl, sym, ap, subst, ◌∙◌, arith}
 use Rattle.hb_core.proofs.Facts.RunLines.{run_keeps_lines}
-use Rattle.hb_core.specs.Machines.{Machine}
+use Rattle.hb_steps.specs.Machines.{Machine}
 use Rattle.hb_core.specs.Runs.{HasReadFault}
 use Rattle.hb_core.specs.Showing.{RunningCore}
 use Rattle.hb_core.specs.Working.{MayStep}

@@ -1,8 +1,8 @@
 -- What `drive`, `run` and `work` answer where nothing failed.
 use Rattle.std.proofs.Common.{◌≡◌, ◌⊎◌, inl, inr, ℕ, Bool, List, [], Option, Some, Result, Ok, Err, refl, sym, ap, subst, ◌∙◌}
-use Rattle.hb_core.specs.DamageLaws.{IsUndamaged}
-use Rattle.hb_core.specs.KeepingLaws.{BegunKeepsAll}
-use Rattle.hb_core.specs.Machines.{Machine}
+use Rattle.hb_steps.specs.DamageLaws.{IsUndamaged}
+use Rattle.hb_steps.specs.KeepingLaws.{BegunKeepsAll}
+use Rattle.hb_steps.specs.Machines.{Machine}
 use Rattle.hb_gen.specs.Lines.{generated}
 use Rattle.hb_lemmas.proofs.Options.{at_value}
 use Rattle.hb_layout.specs.declared.meta.Meta.{Meta}

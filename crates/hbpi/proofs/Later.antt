@@ -1,6 +1,6 @@
 -- No count of faults falls in a run, by how it ends.
 use Rattle.std.proofs.Common.{◌≡◌, ℕ, ◌≤◌, inl, inr, List, Option, Some, None, Result, Ok, Err, refl, ap, subst, arith, ◌⊎◌}
-use Rattle.hb_core.specs.Machines.{Machine}
+use Rattle.hb_steps.specs.Machines.{Machine}
 use Rattle.hb_core.specs.declared.counts.TidyCounts.{TidyCounts}
 use Rattle.hb_disk.specs.Model.{DiskModel}
 use Rattle.hb_gen.specs.Spelling.{generated_text}

@@ -2,15 +2,15 @@
 use Rattle.std.proofs.Common.{◌≡◌, inl, inr, ℕ, ◌+◌, ◌≤◌, List, [], ◌∷◌, All, Some, None, refl, sym, ap, subst, ◌∙◌, arith}
 use Rattle.std.proofs.lemmas.List.Elements.{All-nil, All-weaker}
 use Rattle.std.specs.List.{Contains}
-use Rattle.hb_core.specs.KeepingLaws.{BegunKeepsAll}
-use Rattle.hb_core.specs.KeptOrder.{StandsSomewhere}
-use Rattle.hb_core.specs.KeptSequence.{IsInSequence}
-use Rattle.hb_core.specs.Laws.{HasOnePage, PointsHaveOnePage}
-use Rattle.hb_core.specs.Machines.{Files, Machine, settled_count}
-use Rattle.hb_core.specs.MomentLaws.{IsPrefixImage}
+use Rattle.hb_steps.specs.KeepingLaws.{BegunKeepsAll}
+use Rattle.hb_steps.specs.KeptOrder.{StandsSomewhere}
+use Rattle.hb_steps.specs.KeptSequence.{IsInSequence}
+use Rattle.hb_steps.specs.Laws.{HasOnePage, PointsHaveOnePage}
+use Rattle.hb_steps.specs.Machines.{Files, Machine, settled_count}
+use Rattle.hb_steps.specs.MomentLaws.{IsPrefixImage}
 use Rattle.hb_core.specs.Runs.{HoldsSince}
-use Rattle.hb_core.specs.Steps.{StepsInSequence}
-use Rattle.hb_core.specs.SteppingLaws.{IsBegunOver, StepsGoOn}
+use Rattle.hb_steps.specs.Steps.{StepsInSequence}
+use Rattle.hb_steps.specs.SteppingLaws.{IsBegunOver, StepsGoOn}
 use Rattle.hb_disk.proofs.Facts.RunLaws.{Leaves-weaker}
 use Rattle.hb_disk.specs.Calls.{Leaves}
 use Rattle.hb_disk.specs.Model.{DiskModel}

@@ -4,10 +4,10 @@ use Rattle.std.specs.Prelude.{◌==◌, All, Contains, IsTrue, count_by}
 use Rattle.std.specs.List.{AllByRecursion, slice_get}
 use Rattle.std.specs.FinMap as finite
 use Rattle.std.proofs.lemmas.Bool.{eqb-true, false≢true}
-use Rattle.hb_core.specs.KeptMachine.{MachineKeeps}
-use Rattle.hb_core.specs.KeptOrder.{StandsOutside, StandsSomewhere}
-use Rattle.hb_core.specs.KeptSequence.{IsInSequence}
-use Rattle.hb_core.specs.Machines.{Machine}
+use Rattle.hb_steps.specs.KeptMachine.{MachineKeeps}
+use Rattle.hb_steps.specs.KeptOrder.{StandsOutside, StandsSomewhere}
+use Rattle.hb_steps.specs.KeptSequence.{IsInSequence}
+use Rattle.hb_steps.specs.Machines.{Machine}
 use Rattle.hb_core.specs.Runs.{left_count}
 use Rattle.hb_core.specs.Showing.{RunningCore}
 use Rattle.hb_disk.specs.Model.{DiskModel}

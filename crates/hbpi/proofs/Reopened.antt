@@ -1,10 +1,10 @@
 -- What is said of the steps of a store that was just opened, seen from before the opening.
 use Rattle.std.proofs.Common.{ℕ, ◌+◌, ◌≤◌, List, Option, None, IsSome, refl, subst, arith}
-use Rattle.hb_core.specs.Laws.{HasOnePage}
-use Rattle.hb_core.specs.Machines.{Machine}
-use Rattle.hb_core.specs.MomentLaws.{IsPrefixImage}
+use Rattle.hb_steps.specs.Laws.{HasOnePage}
+use Rattle.hb_steps.specs.Machines.{Machine}
+use Rattle.hb_steps.specs.MomentLaws.{IsPrefixImage}
 use Rattle.hb_core.specs.Runs.{CountsFaults}
-use Rattle.hb_core.specs.SteppingLaws.{IsBegunOver}
+use Rattle.hb_steps.specs.SteppingLaws.{IsBegunOver}
 use Rattle.hb_disk.proofs.Facts.RunLaws.{Leaves-then, Leaves-weaker}
 use Rattle.hb_disk.specs.Model.{DiskModel}
 use Rattle.hb_lemmas.proofs.Options.{has_value}

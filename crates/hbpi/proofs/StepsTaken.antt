@@ -1,11 +1,11 @@
 -- What a run of a core over a store that was just opened comes to, as the program says it.
 use Rattle.std.proofs.Common.{◌≡◌, ◌≢◌, ◌⊎◌, inl, inr, Bool, ℕ, ◌≤◌, List, [], ◌++◌, Option, None, IsSome, refl, sym, ap, subst, ◌∙◌, arith}
-use Rattle.hb_core.specs.KeepingLaws.{BegunKeepsAll, HasKeptAll}
-use Rattle.hb_core.specs.Machines.{Files, Machine, settled_count}
-use Rattle.hb_core.specs.MomentLaws.{IsPrefixImage}
+use Rattle.hb_steps.specs.KeepingLaws.{BegunKeepsAll, HasKeptAll}
+use Rattle.hb_steps.specs.Machines.{Files, Machine, settled_count}
+use Rattle.hb_steps.specs.MomentLaws.{IsPrefixImage}
 use Rattle.hb_core.specs.Runs.{AreAnswers, ChangesFile, CountsFaults, HasRun}
 use Rattle.hb_core.specs.Showing.{RunningCore, ShowsFiles}
-use Rattle.hb_core.specs.SteppingLaws.{BeginningKeepsAll, IsBegunOver}
+use Rattle.hb_steps.specs.SteppingLaws.{BeginningKeepsAll, IsBegunOver}
 use Rattle.hb_core.specs.declared.endings.End.{End}
 use Rattle.hb_core.specs.declared.endings.End.TheVariants as ends
 use Rattle.hb_disk.proofs.Facts.RewriteLaws.{Becomes-tells}

@@ -1,10 +1,10 @@
 -- What a tidying of a file that was just opened comes to, seen from before the opening.
 use Rattle.std.proofs.Common.{◌≡◌, ℕ, List, [], Option, None, IfSome, Result, Ok, Err, sym, ap, ◌∙◌, subst}
-use Rattle.hb_core.specs.Machines.{Files, Machine, current_file}
-use Rattle.hb_core.specs.MomentLaws.{IsPrefixImage}
+use Rattle.hb_steps.specs.Machines.{Files, Machine, current_file}
+use Rattle.hb_steps.specs.MomentLaws.{IsPrefixImage}
 use Rattle.hb_core.specs.Runs.{ChangesFile, CountsFaults}
 use Rattle.hb_core.specs.Showing.{RunningCore, ShowsFiles}
-use Rattle.hb_core.specs.SteppingLaws.{IsBegunOver}
+use Rattle.hb_steps.specs.SteppingLaws.{IsBegunOver}
 use Rattle.hb_core.specs.declared.counts.TidyCounts.{TidyCounts}
 use Rattle.hb_disk.proofs.Facts.RewriteLaws.{Becomes-tells}
 use Rattle.hb_disk.proofs.Facts.RunLaws.{Leaves-then, Leaves-weaker}
@@ -31,7 +31,7 @@ use Rattle.hbpi.specs.SeenRuns.{IsAlone, Seen, run_of}
 use Rattle.hbpi.specs.Starts.{StartLaws}
 use Rattle.hbpi.specs.Tidied.{GrewBy, HasContents, HasSameRecords, IsTidied, LeavesTidied}
 use Rattle.hbpi.specs.TidyRuns.{EndsForced, FilesTidied, TidiesFile, TidyWhy}
-use Rattle.hb_core.proofs.Facts.LaterPages.{last_sound}
+use Rattle.hb_steps.proofs.Facts.LaterPages.{last_sound}
 
 -- ---- over the file of a disk that tells
 

@@ -2,11 +2,11 @@
 use Rattle.std.proofs.Common.{◌≡◌, ℕ, ◌+◌, ◌-◌, ◌^◌, List, [], Option, Some, None, IfSome, IsSome, Ok, Err, Result, option_map, refl, sym, ap, ◌∙◌, subst, arith}
 use Rattle.hb_store.proofs.Facts.StoreLaws.{StoreKeeps-alone}
 use Rattle.hb_core.specs.Between.{said_of_flush}
-use Rattle.hb_core.specs.Keeps.{HasSoundFile}
-use Rattle.hb_core.specs.Machines.{Files, Machine, current_file}
+use Rattle.hb_steps.specs.Keeps.{HasSoundFile}
+use Rattle.hb_steps.specs.Machines.{Files, Machine, current_file}
 use Rattle.hb_core.specs.Runs.{RunningLaws}
 use Rattle.hb_core.specs.Showing.{RunningCore, ShowsMachine}
-use Rattle.hb_core.specs.Steps.{StepsTo}
+use Rattle.hb_steps.specs.Steps.{StepsTo}
 use Rattle.hb_core.specs.Touching.{Touches}
 use Rattle.hb_core.specs.Working.{MayStep}
 use Rattle.hb_core.specs.declared.counts.TidyCounts.{TidyCounts}

@@ -1,6 +1,6 @@
 -- How a run of `tidy` ends that has made its core.
 use Rattle.std.proofs.Common.{◌≡◌, ℕ, List, [], map, Result, inr, refl, sym, ap, ◌∙◌, subst}
-use Rattle.hb_core.specs.Machines.{Machine}
+use Rattle.hb_steps.specs.Machines.{Machine}
 use Rattle.hb_core.specs.Showing.{RunningCore}
 use Rattle.hb_core.specs.Working.{MayStep}
 use Rattle.hb_core.specs.declared.counts.TidyCounts.{TidyCounts}

@@ -1,6 +1,6 @@
 -- What `tidy` leaves of the file that the disk opens to.
 use Rattle.std.proofs.Common.{◌≡◌, ◌⊎◌, inl, inr, ℕ, List, Some, Result, Ok, Err, sym, subst}
-use Rattle.hb_core.specs.Machines.{Machine}
+use Rattle.hb_steps.specs.Machines.{Machine}
 use Rattle.hb_core.specs.declared.counts.TidyCounts.{TidyCounts}
 use Rattle.hb_lemmas.proofs.Options.{at_value, has_value}
 use Rattle.hb_ops.specs.Files.{FileState}

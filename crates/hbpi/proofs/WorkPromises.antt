@@ -3,10 +3,10 @@ use Rattle.std.proofs.Common.{◌≡◌, inl, inr, ℕ, ◌≤◌, List, [], ◌
 use Rattle.std.specs.List.{slice_get}
 use Rattle.std.specs.FinMap as finite
 use Rattle.std.proofs.lemmas.List.{take_all}
-use Rattle.hb_core.specs.KeepingLaws.{BegunKeepsAll}
-use Rattle.hb_core.specs.KeptMachine.{CoreKeeps}
-use Rattle.hb_core.specs.KeptOrder.{IsSettledIn, StandsInOrder}
-use Rattle.hb_core.specs.Machines.{Files, Machine, settled_count}
+use Rattle.hb_steps.specs.KeepingLaws.{BegunKeepsAll}
+use Rattle.hb_steps.specs.KeptMachine.{CoreKeeps}
+use Rattle.hb_steps.specs.KeptOrder.{IsSettledIn, StandsInOrder}
+use Rattle.hb_steps.specs.Machines.{Files, Machine, settled_count}
 use Rattle.hb_core.specs.Runs.{left_count}
 use Rattle.hb_lemmas.proofs.Options.{at_value}
 use Rattle.hb_ops.specs.Files.{FileState, contents_of}

@@ -1,7 +1,7 @@
 -- A machine that has nothing left to do, by the core that shows it.
 use Rattle.std.proofs.Common.{◌≡◌, ℕ, None, List, sym, ◌∙◌}
 use Rattle.hb_activity.specs.declared.jobs.JobKind.TheVariants.{Post, Merge}
-use Rattle.hb_core.specs.Machines.{Machine}
+use Rattle.hb_steps.specs.Machines.{Machine}
 use Rattle.hb_core.specs.Showing.{RunningCore, ShowsMachine}
 use Rattle.hb_disk.specs.Model.{DiskModel}
 use Rattle.hb_core.specs.declared.endings.End.{End}

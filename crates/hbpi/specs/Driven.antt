@@ -1,9 +1,9 @@
 -- How a run of `drive`, `run` or `work` takes its steps, or comes to none.
 use Rattle.std.specs.Prelude.{◌≡◌, ℕ, Bool, true, false, List, [], None}
 use Rattle.hb_activity.specs.declared.jobs.JobKind.TheVariants.{Post, Merge}
-use Rattle.hb_core.specs.Machines.{Machine}
+use Rattle.hb_steps.specs.Machines.{Machine}
 use Rattle.hb_core.specs.Runs.{left_count}
-use Rattle.hb_core.specs.ProgressLaws.{jobs_of}
+use Rattle.hb_steps.specs.ProgressLaws.{jobs_of}
 use Rattle.hb_disk.specs.Calls.{OnlyReads}
 use Rattle.hb_disk.specs.Model.{DiskModel}
 use Rattle.hb_drive.specs.Driving.{run_text}

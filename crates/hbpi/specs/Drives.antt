@@ -1,10 +1,10 @@
 -- What the steps of a run over a file come to.
 use Rattle.std.specs.Prelude.{◌≡◌, ℕ, ◌+◌, ◌≤◌, List, map, take, All, None, IfSome}
-use Rattle.hb_core.specs.Machines.{Machine, settled_count}
-use Rattle.hb_core.specs.MomentLaws.{IsPrefixImage}
+use Rattle.hb_steps.specs.Machines.{Machine, settled_count}
+use Rattle.hb_steps.specs.MomentLaws.{IsPrefixImage}
 use Rattle.hb_core.specs.Runs.{AreAnswers, CountsFaults, HoldsSince}
-use Rattle.hb_core.specs.Steps.{StepsInSequence}
-use Rattle.hb_core.specs.SteppingLaws.{IsBegun, IsBegunOver}
+use Rattle.hb_steps.specs.Steps.{StepsInSequence}
+use Rattle.hb_steps.specs.SteppingLaws.{IsBegun, IsBegunOver}
 use Rattle.hb_disk.specs.Calls.{Leaves}
 use Rattle.hb_disk.specs.Model.{DiskModel}
 use Rattle.hb_space.specs.Actors.{IsActor}
@@ -33,7 +33,7 @@ pub record LeavesPrefixes (s : FileState) (d e : DiskModel) (answered : List Ans
   pub clock : after.clock ≡ e.clock
   pub settled : after.stop ≡ None → (t : FileState) × IsEven e t × IsSound t × (contents_of t ≡ result_of (contents_of s) (take (settled_count after) after.order))
 
--- These steps of the 19 actors were taken, each as the table says, from a machine that has taken none over the file of the disk, to this machine; and
+-- These steps of actors were taken, each as the table says, from a machine that has taken none over the file of the disk, to this machine; and
 -- these are its answers, with the disk's clock after each one's step, and the numbers of its order.
 pub record TakesSteps (d e : DiskModel) (k : ℕ) (lines : List Line) (steps : List ℕ) (answered : List Answered) (order : List ℕ) (after : Machine) : Type 0 where
   pub before : Machine

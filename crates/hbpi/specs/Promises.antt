@@ -2,8 +2,8 @@
 use Rattle.std.specs.Prelude.{◌≡◌, ◌⊎◌, ℕ, ◌+◌, ◌≤◌, IsTrue, List, [], map, take, All, Option, Some, Result, Ok, Err}
 use Rattle.std.specs.FinMap as finite
 use Rattle.std.specs.List.{Contains}
-use Rattle.hb_core.specs.KeptOrder.{StandsSomewhere}
-use Rattle.hb_core.specs.MomentLaws.{IsPrefixImage}
+use Rattle.hb_steps.specs.KeptOrder.{StandsSomewhere}
+use Rattle.hb_steps.specs.MomentLaws.{IsPrefixImage}
 use Rattle.hb_core.specs.Runs.{HoldsSince}
 use Rattle.hb_disk.specs.Calls.{Leaves}
 use Rattle.hb_ops.specs.Files.{FileState, contents_of}

@@ -1,6 +1,6 @@
 -- Which scripts come of a text, with step lines or without, or of the generator.
 use Rattle.std.specs.Prelude.{◌≡◌, ℕ, ◌≤◌, Bool, List, [], All, Option, Result, Ok, Err}
-use Rattle.hb_core.specs.KeptLines.{HasLineBody}
+use Rattle.hb_steps.specs.KeptLines.{HasLineBody}
 use Rattle.hb_gen.specs.Lines.{generated}
 use Rattle.hb_outside.specs.Calls.{SourceModel}
 use Rattle.hb_outside.specs.Streams.{Rose}

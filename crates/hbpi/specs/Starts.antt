@@ -1,9 +1,9 @@
 -- A run over a file before its first step.
 use Rattle.std.specs.Prelude.{◌≡◌, ◌⊎◌, ℕ, List, []}
 use Rattle.hb_core.specs.Relied.{MayTakeSteps}
-use Rattle.hb_core.specs.KeepingLaws.{BegunKeepsAll}
+use Rattle.hb_steps.specs.KeepingLaws.{BegunKeepsAll}
 use Rattle.hb_core.specs.Showing.{RunningCore}
-use Rattle.hb_core.specs.SteppingLaws.{BeginningKeepsAll}
+use Rattle.hb_steps.specs.SteppingLaws.{BeginningKeepsAll}
 use Rattle.hb_core.specs.Taking.{begun_core}
 use Rattle.hb_disk.specs.Model.{DiskModel, IsDisk}
 use Rattle.hb_outside.specs.Calls.{SinkModel, SourceModel}

@@ -1,6 +1,6 @@
 -- How a run of `drive`, `run` or `work` ends.
 use Rattle.std.specs.Prelude.{◌≡◌, ◌⊎◌, ℕ, ◌≤◌, List, None, Some}
-use Rattle.hb_core.specs.Machines.{Machine}
+use Rattle.hb_steps.specs.Machines.{Machine}
 use Rattle.hb_core.specs.Runs.{HasReadFault}
 use Rattle.hb_outside.specs.Calls.{SinkModel}
 use Rattle.hb_outside.specs.Streams.{Rose, Appends, AppendsFront}

@@ -1,7 +1,7 @@
 -- What a run of `tidy` leaves of its file, by its status.
 use Rattle.std.specs.Prelude.{◌≡◌, ◌⊎◌, ℕ, ◌+◌, List, [], ◌++◌, codes, length, Result, Ok, Err, Some}
 use Rattle.std.specs.Fmt.{decimal}
-use Rattle.hb_core.specs.MomentLaws.{IsPrefixImage}
+use Rattle.hb_steps.specs.MomentLaws.{IsPrefixImage}
 use Rattle.hb_core.specs.declared.counts.TidyCounts.{TidyCounts}
 use Rattle.hb_disk.specs.Calls.{Leaves}
 use Rattle.hb_disk.specs.Model.{DiskModel}

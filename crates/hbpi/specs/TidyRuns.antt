@@ -1,9 +1,9 @@
 -- How a run of `tidy` ends, and why.
 use Rattle.std.specs.Prelude.{◌≡◌, ◌⊎◌, List, [], Result, Ok, Err, None, Some, IfSome, IsSome, ◌-◌, ◌^◌}
-use Rattle.hb_core.specs.Machines.{Files, Machine, current_file}
+use Rattle.hb_steps.specs.Machines.{Files, Machine, current_file}
 use Rattle.hb_core.specs.Runs.{CountsFaults}
 use Rattle.hb_core.specs.Showing.{RunningCore}
-use Rattle.hb_core.specs.SteppingLaws.{IsBegun, IsBegunOver}
+use Rattle.hb_steps.specs.SteppingLaws.{IsBegun, IsBegunOver}
 use Rattle.hb_core.specs.declared.counts.TidyCounts.{TidyCounts}
 use Rattle.hb_disk.specs.Model.{DiskModel}
 use Rattle.hb_layout.specs.declared.meta.Meta.{Meta}

@@ -6,7 +6,7 @@ ghost use Rattle.hbpi.specs.Counted.{count_kind, has_kind, records_left, says_at
 use hb_set::{Answered, Command, Line, Reply};
 
 /// A reply of the record set, without what it has found.
-#[derive(Clone, Copy, Debug)]
+#[derive(Clone, Copy)]
 pub(crate) enum Kind {
     Done,
     Duplicate,

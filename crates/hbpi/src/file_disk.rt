@@ -71,22 +71,24 @@ impl FileDisk {
 /// calls of the system.
 const PIECE: usize = 65_536;
 
-/// Makes the bytes from a place of the file on zero, by way of as many in memory.
+/// Makes the bytes from a place of the file on zero, by way of as many in memory, which are zero before and behind it.
 ///
 /// Where the file has all its blocks, what is zero already isn't written. Where it may lack some it is, so that it has
 /// them there, and no later write behind it wants new ones.
 fn zero_piece(file: &File, at: u64, piece: &mut [u8], is_whole: bool) -> io::Result<()>
     ensures { length piece.new ≡ length piece.old }
 {
-    if is_whole && file.read_exact_at(piece, at).is_ok() && is_zero(piece) {
-        return Ok(());
+    if is_whole {
+        if file.read_exact_at(piece, at).is_ok() && is_zero(piece) {
+            return Ok(());
+        }
+        piece.fill(0);
     }
-    piece.fill(0);
     file.write_all_at(piece, at)
 }
 
 /// Makes so many bytes from a place of the file on zero, where it has a block for each of its bytes or not.
-fn zero_at(file: &File, at: u64, len: u64, is_whole: bool) -> io::Result<()>
+pub(crate) fn zero_at(file: &File, at: u64, len: u64, is_whole: bool) -> io::Result<()>
     requires { at + len ≤ last_value }
 {
     let mut piece = [0; PIECE];

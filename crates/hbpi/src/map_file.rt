@@ -36,8 +36,8 @@ pub(crate) fn map_file<K: Sink, D: Device>(alloc: Global, mut sink: K, disk: D) 
 {
     match recover(alloc, disk) {
         Ok((mut store, _records)) => {
-            // Its contract says that the frames are those of the pages in memory, as the map wants it.
-            let _ = store.meta();
+            // The frames are those of the pages in memory, as the map wants it.
+            store.stands_well();
             let status = status_of(&put_map(alloc, &mut store, &mut sink));
             put_fault(&mut sink, status);
             Finished {

@@ -2,7 +2,7 @@
 
 ghost use Rattle.std.specs.Prelude.{◌≡◌, ◌++◌, IfOk, codes, decimal, string_bytes};
 
-use crate::file_disk::FileDisk;
+use crate::file_disk::{FileDisk, zero_at};
 use crate::files::{hold_numbers, lock};
 use crate::trouble::{Attempt, Trouble};
 use itoa::Buffer;
@@ -11,22 +11,11 @@ use std::fs::File;
 use std::io::ErrorKind;
 use std::{fs, io, process};
 
-/// A new file that hasn't its name yet. It stands beside it: in the same folder, as `NAME.new-ID` with the number of the
-/// process, and it is locked as long as its disk is there.
+/// A new file that hasn't its name yet. It stands beside it: in the same folder, as `.hbpi-new-ID` with the number of the
+/// process, and it is locked as long as its disk is there. Its name is short whatever the other one is.
 #[derive(Drop)]
 pub struct NewFile {
     beside: String,
-}
-
-/// The name of a file beside the one of this name, for the process of this number.
-fn name_beside(alloc: Global, name: &str, id: u32) -> Result<String, AllocError>
-    ensures { IfOk result (λ beside. string_bytes beside ≡ name.now ++ codes ".new-" ++ decimal id) }
-{
-    let mut number = Buffer::new();
-    let mut beside = name.to_string(alloc)?;
-    beside.push_str(".new-")?;
-    beside.push_str(number.format(id))?;
-    Ok(beside)
 }
 
 /// The folder that a file of this name stands in.
@@ -38,6 +27,17 @@ fn folder_of(name: &str) -> &str {
     }
 }
 
+/// The name of a new file in a folder, for the process of this number.
+fn name_in(alloc: Global, folder: &str, id: u32) -> Result<String, AllocError>
+    ensures { IfOk result (λ beside. string_bytes beside ≡ folder.now ++ codes "/.hbpi-new-" ++ decimal id) }
+{
+    let mut number = Buffer::new();
+    let mut beside = folder.to_string(alloc)?;
+    beside.push_str("/.hbpi-new-")?;
+    beside.push_str(number.format(id))?;
+    Ok(beside)
+}
+
 /// Nothing, where the name is free: there is no file of this name, nor a link that leads nowhere.
 fn find_none(rt: &HostRuntime, name: &str) -> io::Result<()> {
     match fs::symlink_metadata(rt, name) {
@@ -47,10 +47,36 @@ fn find_none(rt: &HostRuntime, name: &str) -> io::Result<()> {
     }
 }
 
-/// Locks a file that was just made, gives it its size, and makes it last.
+/// Removes the file of this name that a `create` which was killed has left, unless a program has it. Where that one was killed
+/// as its file had both names, the other name stays.
+fn remove_left(rt: &HostRuntime, beside: &str) -> io::Result<()> {
+    let left = File::options().read(true).write(true).open(rt, beside)?;
+    match left.try_lock() {
+        Ok(()) => fs::remove_file(rt, beside),
+        Err(refused) => Err(io::Error::from(refused)),
+    }
+}
+
+/// Makes a new file of this name, in the place of one that was left there.
+fn make_beside(rt: &HostRuntime, beside: &str) -> io::Result<File> {
+    match File::create_new(rt, beside) {
+        Ok(file) => Ok(file),
+        Err(error) => match error.kind() {
+            ErrorKind::AlreadyExists => {
+                remove_left(rt, beside)?;
+                File::create_new(rt, beside)
+            }
+            _ => Err(error),
+        },
+    }
+}
+
+/// Locks a file that was just made, gives it its size, and makes it last. Its zeros are written, so that it has all its blocks
+/// on the device, and no later call wants a new one.
 fn set_up(file: &File, size: u64) -> Result<(), Trouble> {
     lock(file)?;
     Attempt::Size.of(file.set_len(size))?;
+    Attempt::Size.of(zero_at(file, 0, size, false))?;
     Attempt::Sync.of(file.sync_all())
 }
 
@@ -95,14 +121,14 @@ impl NewFile {
         let id = process::id(rt.process());
         Attempt::Find.of(find_none(rt, name))?;
         let _held = Attempt::Make(id).of(hold_numbers(rt))?;
-        let beside = match name_beside(rt.alloc(), name, id) {
+        let beside = match name_in(rt.alloc(), folder_of(name), id) {
             Ok(beside) => beside,
             Err(refused) => return Attempt::Make(id).of(Err(io::Error::from(refused))),
         };
-        let file = Attempt::Make(id).of(File::create_new(rt, beside.as_str()))?;
+        let file = Attempt::Make(id).of(make_beside(rt, beside.as_str()))?;
         let made = NewFile { beside };
         match set_up(&file, size) {
-            Ok(()) => Ok((made, FileDisk::new(file, size, false))),
+            Ok(()) => Ok((made, FileDisk::new(file, size, true))),
             Err(trouble) => {
                 made.remove(rt);
                 Err(trouble)

@@ -3,7 +3,7 @@
 use hb_outside::{Failed, Sink};
 
 /// A sink that drops what it is given: it tells nothing, and never fails.
-#[derive(Clone, Copy, Debug)]
+#[derive(Clone, Copy)]
 pub(crate) struct Nowhere;
 
 impl Sink for Nowhere {

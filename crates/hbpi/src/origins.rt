@@ -1,7 +1,7 @@
 //! Where the script of a run comes from.
 
 /// Where the script of a run comes from.
-#[derive(Clone, Copy, Debug)]
+#[derive(Clone, Copy)]
 pub(crate) enum Origin {
     /// The text of the source, with step lines or without.
     Text { step_lines: bool },

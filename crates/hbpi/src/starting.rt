@@ -1,7 +1,7 @@
 //! A file that is opened, and a script that comes, before the first step.
 ghost use Rattle.std.specs.Prelude.{◌≡◌, ◌≤◌, All, IfOk, IfErr};
 ghost use Rattle.hb_core.specs.CoreSeen.{core_seen, core_disk};
-ghost use Rattle.hb_core.specs.KeptLines.{HasLineBody};
+ghost use Rattle.hb_steps.specs.KeptLines.{HasLineBody};
 ghost use Rattle.hb_outside.specs.Calls.{SourceModel};
 ghost use Rattle.hb_store.specs.Seen.{seen_as, disk_of};
 ghost use Rattle.hbpi.specs.Schedules.{CameNot, FitsOrigin, HasLineBox, NotScheduled, ScriptCame};
@@ -11,8 +11,6 @@ use crate::origins::Origin;
 use crate::statuses::Status;
 use crate::texts::{TextStop, read_text};
 use hb_core::Core;
-use hb_core::file_laws::a_beginning_keeps_all;
-use hb_core::keeping_laws::steps_keep_all;
 use hb_disk::Disk;
 use hb_gen::generate;
 use hb_gen::laws::a_generated_text_says_its_lines;
@@ -23,6 +21,8 @@ use hb_sound::laws::{
     a_level_parts_the_space, a_walk_ends_at_the_responsible_page, records_stand_once,
 };
 use hb_space::Attributes;
+use hb_steps::file_laws::a_beginning_keeps_all;
+use hb_steps::keeping_laws::steps_keep_all;
 use hb_store::{Store, an_image_opens_to_one_file};
 use hb_text::{TextError, read_commands};
 use std::alloc::Global;

@@ -1,7 +1,7 @@
 //! The command `tidy`.
 ghost use Rattle.std.specs.Prelude.{Some};
 ghost use Rattle.hb_core.specs.CoreSeen.{core_disk, core_seen};
-ghost use Rattle.hb_core.specs.Machines.{Machine};
+ghost use Rattle.hb_steps.specs.Machines.{Machine};
 ghost use Rattle.hb_core.specs.Working.{MayStep};
 ghost use Rattle.hb_tidy.specs.Tidying.{HasTidied};
 ghost use Rattle.hbpi.specs.Runs.{RunsForm};

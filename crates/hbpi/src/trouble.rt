@@ -15,7 +15,7 @@ pub enum Attempt {
     Lock,
     /// To find no file under the name of a new one.
     Find,
-    /// To make the new file beside its name, with `.new-` and this number behind it.
+    /// To make the new file beside its name, as `.hbpi-new-` with this number behind it.
     Make(u32),
     /// To give it its size.
     Size,
@@ -66,7 +66,7 @@ impl Display for Attempt {
     fn fmt<W: fmt::Write>(&self, f: &mut Formatter<W>) -> fmt::Result {
         let words = self.words();
         match self {
-            Attempt::Make(number) => write!(f, "{words} .new-{number}"),
+            Attempt::Make(number) => write!(f, "{words} .hbpi-new-{number}"),
             _ => f.pad(words),
         }
     }
@@ -84,14 +84,11 @@ impl Display for Trouble {
     fn fmt<W: fmt::Write>(&self, f: &mut Formatter<W>) -> fmt::Result {
         let Trouble { attempt, error } = self;
         match (attempt, error.kind()) {
-            (Attempt::Lock, io::ErrorKind::WouldBlock) => {
+            (Attempt::Lock | Attempt::Make(_), io::ErrorKind::WouldBlock) => {
                 write!(f, "{attempt}: another program has it")
             }
             (Attempt::Find | Attempt::Name, io::ErrorKind::AlreadyExists) => {
                 write!(f, "{attempt}: one of this name is there")
-            }
-            (Attempt::Make(_), io::ErrorKind::AlreadyExists) => {
-                write!(f, "{attempt}: a create that was killed left one there")
             }
             (Attempt::Make(_), io::ErrorKind::NotFound) => {
                 write!(f, "{attempt}: its folder isn't there")

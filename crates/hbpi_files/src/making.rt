@@ -12,8 +12,14 @@ const CREATE: &str = "create 2 64 65536 6 32";
 
 const SIZE: u64 = 401_408;
 
-/// How a file beside the name begins.
-const BESIDE: &str = "hbpi_files.making.new-";
+/// Another name of a file that is left.
+const OTHER: &str = "./hbpi_files.making.other";
+
+/// How the name of a file beside it begins.
+const BESIDE: &str = ".hbpi-new-";
+
+/// How many bytes the longest name has that the system takes.
+const LONGEST: usize = 255;
 
 /// Removes the files that were left beside the name, and says how many there were, and whether one has the name.
 fn clear_left(rt: &HostRuntime) -> io::Result<()> {
@@ -41,21 +47,33 @@ fn tell_trouble(rt: &HostRuntime, done: Result<(), Trouble>) -> io::Result<()> {
     }
 }
 
-/// Makes a new file, without a name.
+/// Makes a new file, without a name, which isn't locked from then on.
 fn make(rt: &HostRuntime) -> Result<NewFile, Trouble> {
     let (file, _disk) = NewFile::make(rt, NAME, SIZE)?;
     Ok(file)
 }
 
-/// A process that ends before its new file has its name: the file beside it is all that is left, and stands in the way of
-/// that process alone.
+/// Says whether a new file can be made beside one that is there.
+fn make_again(rt: &HostRuntime) -> io::Result<()> {
+    match make(rt) {
+        Ok(_) => println!(rt; "made in the place of the other one"),
+        Err(trouble) => tell_trouble(rt, Err(trouble)),
+    }
+}
+
+/// A process that ends before its new file has its name: the file beside it is all that is left. As long as that is locked
+/// it stands in the way; then the next one takes its place, and leaves it as it is under another name.
 fn stopped(rt: &HostRuntime) -> io::Result<()> {
     println!(rt; "stopped before the file has its name")?;
-    let _forgotten = make(rt)?;
-    match make(rt) {
-        Ok(_) => println!(rt; "made over the other one")?,
-        Err(trouble) => tell_trouble(rt, Err(trouble))?,
-    }
+    let (_forgotten, disk) = NewFile::make(rt, NAME, SIZE)?;
+    make_again(rt)?;
+    drop(disk);
+    let id = process::id(rt.process());
+    fs::hard_link(rt, format!(in rt.alloc(); "./{BESIDE}{id}")?, OTHER)?;
+    fs::write(rt, OTHER, "another")?;
+    make_again(rt)?;
+    println!(rt; "it says: {}", fs::read_to_string(rt, OTHER)?.as_str())?;
+    fs::remove_file(rt, OTHER)?;
     clear_left(rt)
 }
 
@@ -83,12 +101,23 @@ fn given_up(rt: &HostRuntime) -> io::Result<()> {
     clear_left(rt)
 }
 
+/// A new file with the longest name that the system takes, for which the file beside it has to have a shorter one.
+fn longest<R: Threads + Wait + Sync>(rt: &HostRuntime, threads: &R) -> io::Result<()> {
+    println!(rt; "a name of {LONGEST} bytes")?;
+    let name = "n".repeat(rt.alloc(), LONGEST)?;
+    call_alone(rt, threads, name.as_str(), CREATE, "".as_bytes())?;
+    call_alone(rt, threads, name.as_str(), "check", "".as_bytes())?;
+    fs::remove_file(rt, name.as_str())?;
+    clear_left(rt)
+}
+
 /// Tries all of this, and prints what came out. The last `create` finds nothing in its way.
 pub(crate) fn tell<R: Threads + Wait + Sync>(rt: &HostRuntime, threads: &R) -> io::Result<()> {
     let _gone = fs::remove_file(rt, NAME);
     stopped(rt)?;
     overtaken(rt)?;
     given_up(rt)?;
+    longest(rt, threads)?;
     call_alone(rt, threads, NAME, CREATE, "".as_bytes())?;
     clear_left(rt)?;
     fs::remove_file(rt, NAME)

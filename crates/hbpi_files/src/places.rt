@@ -3,6 +3,7 @@
 use hb_disk::{Device, MemDisk};
 use hbpi::{NewFile, open_file};
 use std::alloc::Global;
+use std::fs::File;
 use std::{fs, io};
 
 const NAME: &str = "./hbpi_files.places";
@@ -115,7 +116,15 @@ fn on_written(rt: &HostRuntime) -> io::Result<()> {
     compare_bytes(rt, beside.bytes())
 }
 
-/// A new file, which has none.
+/// A file that has none.
+fn on_sparse(rt: &HostRuntime) -> io::Result<()> {
+    let mut beside = MemDisk::new(rt.alloc(), vec![in rt.alloc(); 0; SIZE]?);
+    File::create_new(rt, NAME)?.set_len(SIZE as u64)?;
+    compare(rt, &mut open_file(rt, NAME)?, &mut beside)?;
+    compare_bytes(rt, beside.bytes())
+}
+
+/// A new file, which has one for each again.
 fn on_made(rt: &HostRuntime) -> io::Result<()> {
     let mut beside = MemDisk::new(rt.alloc(), vec![in rt.alloc(); 0; SIZE]?);
     let (file, mut disk) = NewFile::make(rt, NAME, SIZE as u64)?;
@@ -124,11 +133,14 @@ fn on_made(rt: &HostRuntime) -> io::Result<()> {
     compare_bytes(rt, beside.bytes())
 }
 
-/// Tries both, and prints what came out.
+/// Tries the three, and prints what came out.
 pub(crate) fn tell(rt: &HostRuntime) -> io::Result<()> {
     let _gone = fs::remove_file(rt, NAME);
     println!(rt; "a file that was written")?;
     on_written(rt)?;
+    fs::remove_file(rt, NAME)?;
+    println!(rt; "a file without blocks")?;
+    on_sparse(rt)?;
     fs::remove_file(rt, NAME)?;
     println!(rt; "a file that was made")?;
     on_made(rt)?;

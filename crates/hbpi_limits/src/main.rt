@@ -7,7 +7,6 @@
 #![tactic(auto)]
 
 mod asks;
-mod attributes;
 mod audits;
 mod calls;
 mod fields;
@@ -15,9 +14,7 @@ mod found;
 mod free_pages;
 mod generated;
 mod heights;
-mod logs;
 mod missed;
-mod records;
 mod searches;
 mod sizes;
 mod spaces;
@@ -27,95 +24,80 @@ use crate::missed::Missed;
 use std::alloc::Global;
 use std::io;
 
-/// Says whether the limit was reached.
-fn tell(rt: &impl Print, limit: &str, reached: Result<(), Missed>) -> io::Result<()> {
-    match reached {
-        Ok(()) => println!(rt; "{limit}: reached"),
-        Err(missed) => println!(rt; "{limit}: {missed:?}"),
+/// What has limits.
+#[derive(Clone, Copy)]
+enum Limit {
+    Spaces,
+    Lines,
+    Generated,
+    Found,
+    Heights,
+    TidiedHeights,
+    Pages,
+    FreePages,
+    Rules,
+    Asks,
+}
+
+/// Each limit, and what its line says.
+const LIMITS: [(&str, Limit); 10] = [
+    (
+        "files of three levels that are posted, and sets, of one to four attributes",
+        Limit::Spaces,
+    ),
+    (
+        "1000000 lines, and 500000 records in one reply",
+        Limit::Lines,
+    ),
+    ("1000000 lines of the generator", Limit::Generated),
+    ("10000 records in a file, and in one reply", Limit::Found),
+    (
+        "one to twelve levels, and one more where there may be",
+        Limit::Heights,
+    ),
+    ("one to twelve levels that are tidied", Limit::TidiedHeights),
+    (
+        "65, 1000 and 65536 pages, changed, replayed and found in their places",
+        Limit::Pages,
+    ),
+    (
+        "300 splits, with 100 pages of a free chain and 200 new ones",
+        Limit::FreePages,
+    ),
+    (
+        "each rule that the last of 1000 pages may break",
+        Limit::Rules,
+    ),
+    ("the pages of a sound file, once or twice", Limit::Asks),
+];
+
+/// Goes to a limit.
+fn reach(alloc: Global, limit: Limit) -> Result<(), Missed> {
+    match limit {
+        Limit::Spaces => spaces::all_spaces(alloc),
+        Limit::Lines => searches::many_lines(alloc),
+        Limit::Generated => generated::longest_text(alloc),
+        Limit::Found => found::many_found(alloc),
+        Limit::Heights => heights::each_height(alloc),
+        Limit::TidiedHeights => heights::each_height_tidied(alloc),
+        Limit::Pages => sizes::many_pages(alloc),
+        Limit::FreePages => free_pages::all_are_taken(alloc),
+        Limit::Rules => audits::each_rule(alloc),
+        Limit::Asks => asks::pages_are_asked(alloc),
     }
 }
 
-/// Says of log areas, sets and texts.
-fn tell_texts(rt: &impl Print, alloc: Global) -> io::Result<()> {
-    tell(
-        rt,
-        "48 records of four attributes and 32 bytes, put, found and deleted",
-        records::fill_a_page(alloc),
-    )?;
-    tell(
-        rt,
-        "files of three levels that are posted, and sets, of one to four attributes",
-        spaces::all_spaces(alloc),
-    )?;
-    tell(
-        rt,
-        "log areas of 67108864 bytes",
-        logs::longest_areas(alloc),
-    )?;
-    tell(
-        rt,
-        "1000000 lines and 10000000 steps in one call, and 999999 frames in one replay",
-        logs::many_frames(alloc),
-    )?;
-    tell(
-        rt,
-        "1000000 lines, and 500000 records in one reply",
-        searches::many_lines(alloc),
-    )?;
-    tell(
-        rt,
-        "1000000 lines of the generator",
-        generated::longest_text(alloc),
-    )?;
-    tell(
-        rt,
-        "10000 records in a file, and in one reply",
-        found::many_found(alloc),
-    )
-}
-
-/// Lets files of each height grow, and tidies others.
-fn all_heights(alloc: Global) -> Result<(), Missed> {
-    heights::each_height(alloc)?;
-    heights::each_height_tidied(alloc)
-}
-
-/// Says of files, from a new one to a last look.
-fn tell_files(rt: &impl Print, alloc: Global) -> io::Result<()> {
-    tell(
-        rt,
-        "one to four attributes, from a new file to a last look",
-        attributes::one_to_four(alloc),
-    )?;
-    tell(
-        rt,
-        "one to twelve levels, and one more where there may be",
-        all_heights(alloc),
-    )?;
-    tell(
-        rt,
-        "65, 1000 and 65536 pages, changed, replayed and found in their places",
-        sizes::many_pages(alloc),
-    )?;
-    tell(
-        rt,
-        "300 splits, with 100 pages of a free chain and 200 new ones",
-        free_pages::all_are_taken(alloc),
-    )?;
-    tell(
-        rt,
-        "each rule that the last of 1000 pages may break",
-        audits::each_rule(alloc),
-    )?;
-    tell(
-        rt,
-        "the pages of a sound file, once or twice",
-        asks::pages_are_asked(alloc),
-    )
+/// Says whether a limit was reached.
+fn tell(rt: &impl Print, name: &str, reached: Result<(), Missed>) -> io::Result<()> {
+    match reached {
+        Ok(()) => println!(rt; "{name}: reached"),
+        Err(missed) => println!(rt; "{name}: {missed:?}"),
+    }
 }
 
 fn main(rt: HostRuntime) -> io::Result<()> {
-    let alloc = rt.alloc();
-    tell_texts(&rt, alloc)?;
-    tell_files(&rt, alloc)
+    for &(name, limit) in &LIMITS {
+        tell(&rt, name, reach(rt.alloc(), limit))?;
+    }
+    Ok(())
 }

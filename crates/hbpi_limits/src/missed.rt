@@ -20,10 +20,6 @@ pub(crate) enum Missed {
         call: &'static str,
         height: u8,
     },
-    /// The log has another number of frames.
-    Frames {
-        count: usize,
-    },
     /// A page was read that isn't the one of the bytes.
     AnotherPage,
     /// The file has another number of levels.

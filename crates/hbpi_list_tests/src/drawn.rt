@@ -1,10 +1,18 @@
 //! A hundred schedules drawn from seeds, of one to four sessions, the poster and the flusher, over one or two attributes, with a
 //! reopening in the middle; and a hundred in which points come, go and come again, with the consolidator, too. What is printed and kept is
-//! compared with a plain list by the printed order.
+//! compared with a plain list by the printed order. And drawn texts for `dry`.
 
-use crate::plain_list::drawn;
-use hbpi_shared_tests::{Commands, EMPTY, Plain, Told, Verb, drive_on, holds, left_of, told_by};
+use crate::ordered::{Commands, EMPTY, Plain, Told, Verb, holds, told_by};
+use crate::runs::{drive_on, left_of, run_on};
 use std::alloc::Global;
+
+/// A number of 0 to 7.
+fn drawn(seed: &mut u64) -> u64 {
+    *seed = seed
+        .wrapping_mul(6364136223846793005)
+        .wrapping_add(1442695040888963407);
+    *seed >> 61
+}
 
 /// How many points commands are drawn on: 24, 64, or 1,024.
 #[derive(Clone, Copy)]
@@ -203,34 +211,14 @@ fn is_right(alloc: Global, seed: u64) -> Option<bool> {
     holds(alloc, file.as_slice(), draw.k, 64, two.whole, two.whole)
 }
 
-/// Whether the cases of 25 seeds from this one on are right.
-fn are_right(alloc: Global, first: u64) -> Option<bool> {
-    for more in 0..25 {
-        if !is_right(alloc, first.wrapping_add(more))? {
+/// Whether a hundred such cases are right.
+pub(crate) fn schedules(alloc: Global) -> Option<bool> {
+    for seed in 0..100 {
+        if !is_right(alloc, seed)? {
             return Some(false);
         }
     }
     Some(true)
-}
-
-#[test]
-fn schedules_as_a_plain_list(rt: HostRuntime) {
-    assert!(rt; are_right(rt.alloc(), 0) == Some(true));
-}
-
-#[test]
-fn more_schedules_as_a_plain_list(rt: HostRuntime) {
-    assert!(rt; are_right(rt.alloc(), 25) == Some(true));
-}
-
-#[test]
-fn later_schedules_as_a_plain_list(rt: HostRuntime) {
-    assert!(rt; are_right(rt.alloc(), 50) == Some(true));
-}
-
-#[test]
-fn last_schedules_as_a_plain_list(rt: HostRuntime) {
-    assert!(rt; are_right(rt.alloc(), 75) == Some(true));
 }
 
 /// Drives a whole wave of commands over a file with these records.
@@ -272,32 +260,34 @@ fn comes_and_goes(alloc: Global, seed: u64) -> Option<bool> {
     holds(alloc, file.as_slice(), draw.k, 24, plain, plain)
 }
 
-/// Whether the cases of 25 seeds from this one on are right.
-fn come_and_go(alloc: Global, first: u64) -> Option<bool> {
-    for more in 0..25 {
-        if !comes_and_goes(alloc, first.wrapping_add(more))? {
+/// Whether a hundred such cases are right.
+pub(crate) fn comings(alloc: Global) -> Option<bool> {
+    for seed in 100..200 {
+        if !comes_and_goes(alloc, seed)? {
             return Some(false);
         }
     }
     Some(true)
 }
 
-#[test]
-fn points_come_and_go(rt: HostRuntime) {
-    assert!(rt; come_and_go(rt.alloc(), 100) == Some(true));
+/// Whether `dry` answers drawn commands as the plain list does.
+fn is_dry(alloc: Global, seed: u64) -> Option<bool> {
+    let mut draw = Draw::new(seed);
+    let mut commands = Commands::new(alloc, draw.k, 0);
+    for _ in 0..62 {
+        draw.command(&mut commands, &MIXED)?;
+    }
+    let words = if draw.k == 1 { "dry 1" } else { "dry 2" };
+    let left = run_on(alloc, words, commands.text.as_str(), &[])?;
+    Some(told_by(&commands, EMPTY, left.said.as_str())?.done)
 }
 
-#[test]
-fn more_points_come_and_go(rt: HostRuntime) {
-    assert!(rt; come_and_go(rt.alloc(), 125) == Some(true));
-}
-
-#[test]
-fn later_points_come_and_go(rt: HostRuntime) {
-    assert!(rt; come_and_go(rt.alloc(), 150) == Some(true));
-}
-
-#[test]
-fn last_points_come_and_go(rt: HostRuntime) {
-    assert!(rt; come_and_go(rt.alloc(), 175) == Some(true));
+/// Whether it does so for eight seeds over each number of attributes.
+pub(crate) fn dry_texts(alloc: Global) -> Option<bool> {
+    for seed in 0..16 {
+        if !is_dry(alloc, seed)? {
+            return Some(false);
+        }
+    }
+    Some(true)
 }

@@ -3,10 +3,9 @@
 
 use crate::drawn::driven;
 use crate::many_pages::changed;
-use hb_disk::{Disk, Pick};
-use hbpi_shared_tests::{
-    Commands, EMPTY, Left, Plain, Verb, drive_on, left_of, run_failing, told_by,
-};
+use crate::ordered::{Commands, EMPTY, Plain, Verb, all_hold};
+use crate::runs::{Left, drive_on, left_of, run_failing};
+use hb_disk::Disk;
 use std::alloc::Global;
 
 /// The file, and how many pages and bytes it may have: two superblocks, two log areas of 16 pages, and these pages.
@@ -110,13 +109,13 @@ fn left_by(alloc: Global, file: &[u8], row: &Row) -> Option<Left> {
     Some(left)
 }
 
-#[test]
-fn a_small_log_runs_full(rt: HostRuntime) {
-    let (_, file) = grown(rt.alloc()).expect(&rt, "a file");
+/// Whether each of the rows is right.
+pub(crate) fn logs_run_full(alloc: Global) -> Option<bool> {
+    let (_, file) = grown(alloc)?;
     for row in &ROWS {
-        let left = left_by(rt.alloc(), file.as_slice(), row);
-        assert!(rt; left.is_some(), "{}", row.0);
+        left_by(alloc, file.as_slice(), row)?;
     }
+    Some(true)
 }
 
 /// What the points have behind so many deletes.
@@ -128,29 +127,6 @@ fn behind(plain: Plain, count: usize) -> Plain {
         }
     }
     plain
-}
-
-/// Whether a file opens with these records, by a search of the whole space.
-fn has_all(alloc: Global, file: &[u8], plain: Plain) -> Option<bool> {
-    let mut commands = Commands::new(alloc, 1, 0);
-    commands.add(1, Verb::Whole, 0)?;
-    commands.text.push_str("step 1x2000\n").ok()?;
-    let left = drive_on(alloc, commands.text.as_str(), file)?;
-    match told_by(&commands, plain, left.said.as_str()) {
-        Some(told) => Some(told.done),
-        None => Some(false),
-    }
-}
-
-/// Whether what a crash before this call may have left has the records of either, for each of three images.
-fn all_hold(alloc: Global, left: &Left, before: u64, one: Plain, other: Plain) -> Option<bool> {
-    for &pick in &[Pick::Old, Pick::New, Pick::Noise(165)] {
-        let image = left.disk.image(before, pick).ok()??;
-        if !has_all(alloc, image.as_slice(), one)? && !has_all(alloc, image.as_slice(), other)? {
-            return Some(false);
-        }
-    }
-    Some(true)
 }
 
 /// Whether the run ends well where the call of this number fails: the machine is stopped, and nothing is lost. The last delete may be
@@ -170,45 +146,63 @@ fn fails_well(
     if left.said != want || left.disk.calls() != call.wrapping_add(1) {
         return Some(false);
     }
-    all_hold(alloc, &left, left.disk.calls(), one, other)
+    all_hold(alloc, &left.disk, left.disk.calls(), COUNT, one, other)
 }
 
 /// At the end the run writes twelve pages, begins the next turn by nine calls, reads the page of the last delete, and forces that by four.
 /// So many calls there are.
 const CALLS: u64 = 12 + 9 + 1 + 4;
 
-#[test]
-fn writing_pages_is_stopped(rt: HostRuntime) {
-    let (plain, file) = grown(rt.alloc()).expect(&rt, "a file");
+/// Whether a stop before each of them leaves what it may.
+pub(crate) fn writing_is_stopped(alloc: Global) -> Option<bool> {
+    let (plain, file) = grown(alloc)?;
     let (old, new) = (behind(plain, 12), behind(plain, 13));
-    let left = left_by(rt.alloc(), file.as_slice(), &ROWS[11]).expect(&rt, "a run");
+    let left = left_by(alloc, file.as_slice(), &ROWS[11])?;
     let calls = left.disk.calls();
     for more in 0..CALLS.wrapping_add(1) {
-        let before = calls.saturating_sub(more);
         // before the last sync the gate is written
         let one = if more == 0 { new } else { old };
         let other = if more < 2 { new } else { old };
-        let right = all_hold(rt.alloc(), &left, before, one, other);
-        assert!(rt; right == Some(true), "before {more}");
+        let before = calls.saturating_sub(more);
+        if !all_hold(alloc, &left.disk, before, COUNT, one, other)? {
+            return Some(false);
+        }
     }
+    Some(true)
 }
 
 /// From which of them on, and up to which, counted from the end, a call fails; and where the last delete is in the order then. Behind a
 /// failing gate or its sync the delete may last. The read is none of these.
 const FAULTS: [(u64, u64, &str); 3] = [(1, 3, " | 13"), (3, 5, " | 13"), (6, CALLS + 1, "")];
 
-#[test]
-fn writing_pages_fails(rt: HostRuntime) {
-    let (plain, file) = grown(rt.alloc()).expect(&rt, "a file");
+/// Whether the run ends well where one of these calls fails.
+fn part_fails(
+    alloc: Global,
+    file: &[u8],
+    plain: Plain,
+    calls: u64,
+    row: (u64, u64, &str),
+) -> Option<bool> {
+    let (first, end, place) = row;
     let (old, new) = (behind(plain, 12), behind(plain, 13));
-    let left = left_by(rt.alloc(), file.as_slice(), &ROWS[11]).expect(&rt, "a run");
-    let calls = left.disk.calls();
-    for &(first, end, place) in &FAULTS {
-        let other = if first == 1 { new } else { old };
-        for more in first..end {
-            let call = calls.saturating_sub(more);
-            let right = fails_well(rt.alloc(), file.as_slice(), call, place, old, other);
-            assert!(rt; right == Some(true), "failing {more}");
+    let other = if first == 1 { new } else { old };
+    for more in first..end {
+        let call = calls.saturating_sub(more);
+        if !fails_well(alloc, file, call, place, old, other)? {
+            return Some(false);
         }
     }
+    Some(true)
+}
+
+/// Whether it does for each of them.
+pub(crate) fn writing_fails(alloc: Global) -> Option<bool> {
+    let (plain, file) = grown(alloc)?;
+    let calls = left_by(alloc, file.as_slice(), &ROWS[11])?.disk.calls();
+    for &row in &FAULTS {
+        if !part_fails(alloc, file.as_slice(), plain, calls, row)? {
+            return Some(false);
+        }
+    }
+    Some(true)
 }

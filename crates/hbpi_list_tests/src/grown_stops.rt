@@ -1,10 +1,9 @@
 //! A crash before each device call, and each device call failing, once or from then on, of a run that splits a page twice and
 //! posts both.
 
-use hb_disk::{Disk, MemDisk, Pick};
-use hbpi_shared_tests::{
-    Commands, EMPTY, Left, NEVER, Plain, Verb, holds, left_of, run_over, told_by,
-};
+use crate::ordered::{Commands, EMPTY, Plain, Verb, all_hold, told_by};
+use crate::runs::{Left, NEVER, left_of, run_over};
+use hb_disk::{Disk, MemDisk};
 use std::alloc::Global;
 
 /// The commands of session 1: points, of which the first nine split a page twice, and the verbs on them.
@@ -70,17 +69,6 @@ fn run(alloc: Global, commands: &Commands, first: u64, count: u64) -> Option<Lef
     run_over(alloc, "drive", commands.text.as_str(), NEVER, NEVER, disk)
 }
 
-/// Whether what a crash before this call may have left opens with one of two sets of records, for each of three images.
-fn all_hold(alloc: Global, disk: &MemDisk, before: u64, one: Plain, other: Plain) -> Option<bool> {
-    for &pick in &[Pick::Old, Pick::New, Pick::Noise(165)] {
-        let image = disk.image(before, pick).ok()??;
-        if !holds(alloc, image.as_slice(), 1, 16, one, other)? {
-            return Some(false);
-        }
-    }
-    Some(true)
-}
-
 /// How many lines were answered before this call of the disk. All reads come before the first force.
 fn answered_before(left: &Left, call: u64) -> usize {
     let reads = left.disk.calls().saturating_sub(left.disk.clock());
@@ -99,30 +87,27 @@ fn stops_well(alloc: Global, commands: &Commands, left: &Left, before: u64) -> O
     let answered = answered_before(left, before);
     let more = answered.wrapping_add(1);
     let (one, other) = (commands.behind(answered)?, commands.behind(more)?);
-    all_hold(alloc, &left.disk, before, one, other)
+    all_hold(alloc, &left.disk, before, 16, one, other)
 }
 
 /// The device calls of the run. A new file's recovery and the read of page 1 take 16. Each of 21 changes is forced by four: two of
 /// them with their splits, and the first one behind the poster with the growth and both postings.
 const CALLS: u64 = 16 + 4 * 21;
 
-#[test]
-fn a_growing_file_is_stopped(rt: HostRuntime) {
-    let commands = lines(rt.alloc()).expect(&rt, "memory");
-    let left = run(rt.alloc(), &commands, 0, 0).expect(&rt, "memory");
-    let said = left.said.as_str();
-    let told = told_by(&commands, EMPTY, said).expect(&rt, said);
-    assert!(rt;
-        told.done && left.disk.calls() == CALLS,
-        "{said} {}",
-        left.disk.calls()
-    );
-    for before in 0..CALLS + 1 {
-        assert!(rt;
-            stops_well(rt.alloc(), &commands, &left, before) == Some(true),
-            "{before}"
-        );
+/// Whether a stop before each of them leaves what it may.
+pub(crate) fn growth_is_stopped(alloc: Global) -> Option<bool> {
+    let commands = lines(alloc)?;
+    let left = run(alloc, &commands, 0, 0)?;
+    let told = told_by(&commands, EMPTY, left.said.as_str())?;
+    if !told.done || left.disk.calls() != CALLS {
+        return Some(false);
     }
+    for before in 0..CALLS + 1 {
+        if !stops_well(alloc, &commands, &left, before)? {
+            return Some(false);
+        }
+    }
+    Some(true)
 }
 
 /// What the points may have once a run has said this: what the settled part of the order made of them, or all of it.
@@ -142,18 +127,16 @@ fn fails_well(alloc: Global, commands: &Commands, first: u64, count: u64) -> Opt
     if !said.starts_with("6 ") || !said.ends_with("disk fault\n") {
         return Some(false);
     }
-    all_hold(alloc, &left.disk, left.disk.calls(), one, other)
+    all_hold(alloc, &left.disk, left.disk.calls(), 16, one, other)
 }
 
-#[test]
-fn a_call_of_a_growing_file_fails(rt: HostRuntime) {
-    let commands = lines(rt.alloc()).expect(&rt, "memory");
+/// Whether each call may fail, alone or with all behind it.
+pub(crate) fn growth_fails(alloc: Global) -> Option<bool> {
+    let commands = lines(alloc)?;
     for call in 0..CALLS {
-        for &count in &[1, 300] {
-            assert!(rt;
-                fails_well(rt.alloc(), &commands, call, count) == Some(true),
-                "{call} {count}"
-            );
+        if !fails_well(alloc, &commands, call, 1)? || !fails_well(alloc, &commands, call, 300)? {
+            return Some(false);
         }
     }
+    Some(true)
 }

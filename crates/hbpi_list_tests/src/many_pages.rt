@@ -3,10 +3,10 @@
 //! which pages are read again.
 
 use crate::drawn::{Draw, Rows, Wave, driven, finish};
+use crate::ordered::{Commands, EMPTY, Plain, Told, Verb, holds};
+use crate::runs::{drive_on, left_of};
 use hb_disk::Disk;
-use hbpi_shared_tests::{Commands, EMPTY, Plain, Told, Verb, drive_on, holds, left_of};
 use std::alloc::Global;
-use std::process::Abort;
 
 /// How many pages such a file may have, and how many bytes it has: two superblocks, two log areas, and these pages.
 const PAGES: usize = 384;
@@ -113,11 +113,9 @@ fn is_driven(alloc: Global, k: u8) -> Option<bool> {
     holds(alloc, file.as_slice(), k, 1024, told.whole, told.whole)
 }
 
-#[test]
-fn a_large_file_is_driven(rt: HostRuntime) {
-    for &k in &[1, 2] {
-        assert!(rt; is_driven(rt.alloc(), k) == Some(true), "{k}");
-    }
+/// The same over one attribute, and over two.
+pub(crate) fn large_files(alloc: Global) -> Option<bool> {
+    Some(is_driven(alloc, 1)? && is_driven(alloc, 2)?)
 }
 
 /// Changes all over a file: of the points three quarters are there, so some 240 lines of such a wave change a page.
@@ -170,28 +168,28 @@ fn case(k: u8, number: u64) -> Draw {
     }
 }
 
-/// Ends the test unless the 25 cases from this number on are right over a file of so many attributes, and in most of them pages
-/// had to leave memory. Each case has two schedules.
-fn expect_right(rt: &impl Abort, alloc: Global, k: u8, first: u64) {
-    let (told, file) = grown(alloc, k, SPREAD).expect(rt, "a file");
+/// Whether 25 cases from this number on are right over a file of so many attributes, and in most of them pages had to leave
+/// memory. Each case has two schedules.
+fn are_right(alloc: Global, k: u8, first: u64) -> Option<bool> {
+    let (told, file) = grown(alloc, k, SPREAD)?;
     let mut crowded = 0usize;
     for more in 0..25u64 {
-        let number = first.wrapping_add(more);
-        let mut draw = case(k, number);
-        let right = is_right(alloc, &mut draw, told.whole, file.as_slice(), &mut crowded);
-        assert!(rt; right == Some(true), "{number}");
+        let mut draw = case(k, first.wrapping_add(more));
+        if !is_right(alloc, &mut draw, told.whole, file.as_slice(), &mut crowded)? {
+            return Some(false);
+        }
     }
-    assert!(rt; crowded >= 20);
+    Some(crowded >= 20)
 }
 
-#[test]
-fn schedules_over_many_pages(rt: HostRuntime) {
-    expect_right(&rt, rt.alloc(), 1, 200);
+/// The same over one attribute.
+pub(crate) fn schedules_of_one(alloc: Global) -> Option<bool> {
+    are_right(alloc, 1, 200)
 }
 
-#[test]
-fn schedules_over_many_pages_of_two_attributes(rt: HostRuntime) {
-    expect_right(&rt, rt.alloc(), 2, 300);
+/// And over two.
+pub(crate) fn schedules_of_two(alloc: Global) -> Option<bool> {
+    are_right(alloc, 2, 300)
 }
 
 /// How many records are taken out of a file that grew in order, each from a page of its own; and how many pages are written to
@@ -242,13 +240,15 @@ fn are_enough(
     Some(is_done && !ends(alloc, &less, before, written)?)
 }
 
-#[test]
-fn pages_are_written_for_frames(rt: HostRuntime) {
-    let before = grown(rt.alloc(), 1, IN_ORDER).expect(&rt, "a file");
+/// Whether they are for each number of records.
+pub(crate) fn pages_are_written(alloc: Global) -> Option<bool> {
+    let before = grown(alloc, 1, IN_ORDER)?;
     for &(count, written) in &CROWDED {
-        let right = are_enough(rt.alloc(), &before, count, written);
-        assert!(rt; right == Some(true), "{count}");
+        if !are_enough(alloc, &before, count, written)? {
+            return Some(false);
+        }
     }
+    Some(true)
 }
 
 /// How many calls of the disk the lookups of so many points make that are six apart, each of them so many times, with an opening
@@ -287,12 +287,14 @@ fn are_read_again(alloc: Global, file: &[u8], count: usize, none: u64) -> Option
 /// one of records has two records. 130 have none.
 const READ_AGAIN: [usize; 9] = [90, 95, 100, 105, 110, 115, 120, 125, 130];
 
-#[test]
-fn pages_that_were_used_leave_last(rt: HostRuntime) {
-    let (_, file) = grown(rt.alloc(), 1, IN_ORDER).expect(&rt, "a file");
-    let none = calls_of(rt.alloc(), file.as_slice(), 0, 0).expect(&rt, "an opening");
+/// Whether they are for each number of points.
+pub(crate) fn pages_are_read_again(alloc: Global) -> Option<bool> {
+    let (_, file) = grown(alloc, 1, IN_ORDER)?;
+    let none = calls_of(alloc, file.as_slice(), 0, 0)?;
     for &count in &READ_AGAIN {
-        let right = are_read_again(rt.alloc(), file.as_slice(), count, none);
-        assert!(rt; right == Some(true), "{count}");
+        if !are_read_again(alloc, file.as_slice(), count, none)? {
+            return Some(false);
+        }
     }
+    Some(true)
 }

@@ -1,13 +1,8 @@
 -- The answers that a caller kept are those that came, one step more.
-use Rattle.std.proofs.Common.{◌≡◌, ℕ, List, ◌++◌, map, Option, IsSome, All, refl, sym, ap, ◌∙◌}
+use Rattle.hb_core.proofs.Facts.Names.{◌≡◌, ℕ, List, ◌++◌, Option, IsSome, All, refl, sym, ap, ◌∙◌, All-nil, All-alone, given_by, AreAnswers, without_clock, Outcome, Answered}
+use Rattle.std.proofs.Common.{map}
 use Rattle.std.proofs.lemmas.List.{map-append}
-use Rattle.std.proofs.lemmas.List.Elements.{All-nil}
-use Rattle.hb_lemmas.proofs.Lists.{All-alone}
-use Rattle.hb_core.specs.Performing.{given_by}
-use Rattle.hb_core.specs.Runs.{AreAnswers, without_clock}
-use Rattle.hb_core.specs.declared.outcomes.Outcome.{Outcome}
-use Rattle.hb_core.specs.declared.outcomes.Outcome.TheVariants as outcomes
-use Rattle.hb_set.specs.declared.scripts.Answered.{Answered}
+use Rattle.hb_steps.specs.declared.outcomes.Outcome.TheVariants as outcomes
 
 -- but for its clock the answer of a step is the same at each value of the clock
 same_but_clock : (outcome : Outcome) (a b : ℕ) → map without_clock (given_by outcome a) ≡ map without_clock (given_by outcome b)

@@ -1,27 +1,15 @@
 -- A core that has taken no step shows a machine that has taken none.
+use Rattle.hb_core.proofs.Facts.Names.{◌≡◌, ℕ, List, [], All, Option, Some, None, IfSome, IsSome, refl, ap, subst, HasSoundFile, Files, Machine, ShowsMachine, begun_core, MayStep, DiskModel, Page, has_value, not_none, FileState, IsSound, AreRising, Line, StoreKeeps, StoreState, in_memory}
 use Rattle.hb_core.proofs.Running.Begun.{begun_shows}
-use Rattle.std.proofs.Common.{◌≡◌, ℕ, List, [], All, Option, Some, None, IfSome, IsSome, is_some, refl, ap, subst}
+use Rattle.std.proofs.Common.{is_some}
 use Rattle.std.specs.FinMap as map
 use Rattle.hb_activity.specs.Classes.{idle_of}
-use Rattle.hb_core.proofs.Machines.Beginnings.{beginning_keeps, beginning_keeps_all}
-use Rattle.hb_core.specs.KeptFits.{LineFits, class_for}
-use Rattle.hb_core.specs.KeptLines.{HasLineBody}
-use Rattle.hb_core.specs.Keeps.{HasSoundFile}
-use Rattle.hb_core.specs.Machines.{Files, Machine}
-use Rattle.hb_core.specs.Showing.{ShowsFiles, ShowsMachine}
-use Rattle.hb_core.specs.SteppingLaws.{IsBegun, IsBegunOver}
-use Rattle.hb_core.specs.Taking.{begun_core}
-use Rattle.hb_core.specs.Working.{MayStep}
-use Rattle.hb_disk.specs.Model.{DiskModel}
-use Rattle.hb_frag.specs.declared.pages.Page.{Page}
-use Rattle.hb_latch.specs.Tables.{latch_cmp}
-use Rattle.hb_lemmas.proofs.Options.{has_value, not_none}
-use Rattle.hb_ops.specs.Files.{FileState}
-use Rattle.hb_ops.specs.Sound.{IsSound}
-use Rattle.hb_set.specs.Order.{AreRising}
-use Rattle.hb_set.specs.declared.scripts.Line.{Line}
-use Rattle.hb_store.specs.Keeps.{StoreKeeps}
-use Rattle.hb_store.specs.States.{IsNew, IsStanding, StoreState, in_memory}
+use Rattle.hb_steps.proofs.Machines.Beginnings.{beginning_keeps, beginning_keeps_all}
+use Rattle.hb_steps.specs.KeptFits.{LineFits, class_for}
+use Rattle.hb_steps.specs.KeptLines.{HasLineBody}
+use Rattle.hb_core.specs.Showing.{ShowsFiles}
+use Rattle.hb_steps.specs.SteppingLaws.{IsBegun, IsBegunOver}
+use Rattle.hb_store.specs.States.{IsNew, IsStanding}
 use Rattle.hb_pool.proofs.Facts.Pooled.{empty_pool}
 
 -- ---- the machine
@@ -31,7 +19,6 @@ begun_machine lines store files clock = record {
   lines = lines;
   answered = [];
   activity = λ actor. idle_of (class_for actor);
-  latches = map.empty;
   jobs = [];
   order = [];
   stop = None;
@@ -72,7 +59,6 @@ module _ (lines : List Line) (store : StoreState) (may : MayBegin lines store) (
     lines_fit = may.fit;
     unanswered = refl;
     idle = λ actor. refl;
-    unlatched = λ actor page. map.get-empty latch_cmp (actor, page);
     no_job = refl;
     no_order = refl;
     runs = refl;

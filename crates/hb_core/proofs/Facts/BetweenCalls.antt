@@ -1,5 +1,6 @@
 -- What a caller does to a core between two steps, of the machines that it shows.
-use Rattle.std.proofs.Common.{◌≡◌, ◌≢◌, inl, inr, ◌↔◌, ℕ, List, [], Some, None, IfErr, IfOk, Result, Ok, Err, refl, sym, ap, ◌∙◌, subst, arith}
+use Rattle.hb_core.proofs.Facts.Names.{◌≡◌, ◌≢◌, inl, inr, ◌↔◌, ℕ, List, [], Some, None, Result, refl, sym, ap, ◌∙◌, subst, arith, DiskModel, Page, Meta, FileState, IsSound, Use, IsActor, StoreKeeps, StoreState, in_memory, HasSoundFile, Machine, RunningCore, ShowsMachine, Touches, MayStep}
+use Rattle.std.proofs.Common.{IfErr, IfOk, Ok, Err}
 use Rattle.std.specs.Result.{IsErrOf}
 use Rattle.hb_activity.specs.Classes.{Flushers, class_of}
 use Rattle.hb_activity.specs.declared.activities.Activity.{Activity}
@@ -7,22 +8,15 @@ use Rattle.hb_activity.specs.declared.activities.Activity.TheVariants as at
 use Rattle.hb_activity.specs.declared.jobs.Job.{Job}
 use Rattle.hb_activity.specs.Queue.{AddsJob}
 use Rattle.hb_disk.specs.Calls.{ReadsOnly}
-use Rattle.hb_disk.specs.Model.{DiskModel}
 use Rattle.hb_disk.proofs.Facts.FaultLaws.{ReadsOnly-as}
-use Rattle.hb_frag.specs.declared.pages.Page.{Page}
-use Rattle.hb_layout.specs.declared.meta.Meta.{Meta}
 use Rattle.hb_lemmas.proofs.Options.{at_value, if_value}
-use Rattle.hb_ops.specs.Files.{FileState, page_of, last_of}
-use Rattle.hb_ops.specs.Sound.{IsSound}
-use Rattle.hb_pool.specs.Frames.{Use}
-use Rattle.hb_space.specs.Actors.{IsActor}
+use Rattle.hb_ops.specs.Files.{page_of, last_of}
 use Rattle.hb_store.specs.Calls.{Fetched, StaysHere, use_fetched}
 use Rattle.hb_store.specs.Fetching.{Breaks, FetchesNot, IsCrowdedOut, IsNoPage, LooksUp}
 use Rattle.hb_store.specs.Forced.{WritesGroups}
 use Rattle.hb_store.specs.Held.{IsTied, StoreHeld}
-use Rattle.hb_store.specs.Keeps.{StoreKeeps}
 use Rattle.hb_store.specs.Replaying.{IsPageOf}
-use Rattle.hb_store.specs.States.{IsMemory, StoreState, in_memory}
+use Rattle.hb_store.specs.States.{IsMemory}
 use Rattle.hb_store.specs.WritingHome.{FlushesHome, IsDue}
 use Rattle.hb_store.specs.declared.stops.FetchStop.{FetchStop}
 use Rattle.hb_store.specs.declared.stops.FetchStop.TheVariants as fetches
@@ -32,7 +26,7 @@ use Rattle.hb_store.specs.declared.stops.StopWhy.TheVariants as stops
 use Rattle.hb_store.specs.declared.stops.Why.TheVariants.{Rule, Level, Extent}
 use Rattle.hb_core.specs.declared.copies.CopyStop.{CopyStop}
 use Rattle.hb_core.specs.declared.copies.CopyStop.TheVariants as copies
-use Rattle.hb_core.specs.declared.outcomes.Outcome.TheVariants as outcomes
+use Rattle.hb_steps.specs.declared.outcomes.Outcome.TheVariants as outcomes
 use Rattle.hb_core.proofs.Machines.BesideSteps.{looking_goes_on, stopped_goes_on, waiting_goes_on}
 use Rattle.hb_core.proofs.Running.Brought.{shows_store}
 use Rattle.hb_core.proofs.Running.Coming.{sound_where_told, told_or_not, looked_brings}
@@ -41,14 +35,12 @@ use Rattle.hb_core.proofs.Running.ForcedShows.{shown_stopped, with_held}
 use Rattle.hb_core.proofs.Running.Touched.{flush_idled_then, moved_well, touched_forced, touched_home, touched_turn}
 use Rattle.hb_core.proofs.Running.WrittenShows.{home_none, home_some, home_turn}
 use Rattle.hb_core.specs.Between.{CopiesPage, FailsToLook, IsNotCopied, LetsWait, PageComes, said_of_flush, with_waiting}
-use Rattle.hb_core.specs.Forcing.{Flushes}
-use Rattle.hb_core.specs.Keeps.{HasSoundFile}
-use Rattle.hb_core.specs.KeptFits.{JobFits}
-use Rattle.hb_core.specs.Machines.{Machine, current_file, stopped_for, with_disk, with_uses}
+use Rattle.hb_steps.specs.Forcing.{Flushes}
+use Rattle.hb_steps.specs.KeptFits.{JobFits}
+use Rattle.hb_steps.specs.Machines.{current_file, modes, stopped_for, with_disk, with_uses}
+use Rattle.hb_steps.proofs.Memory.BroughtPages.{same_held}
 use Rattle.hb_core.specs.Moving.{with_jobs, with_order_of_use, with_stop, with_store}
-use Rattle.hb_core.specs.Showing.{RunningCore, ShowsMachine}
-use Rattle.hb_core.specs.Touching.{Touches, held_in}
-use Rattle.hb_core.specs.Working.{MayStep}
+use Rattle.hb_core.specs.Touching.{held_in}
 
 -- ---- a job waits
 
@@ -102,7 +94,7 @@ module _ (d e : DiskModel) (c : RunningCore) (m : Machine) (id : ℕ) (step : Ma
     }
 
     steps_then : MayStep e then looked
-    steps_then = record { shows = shows_store m d e c failed st step.shows looks uses; goes_on = looking_goes_on m id looked looks_there step.goes_on }
+    steps_then = record { shows = shows_store m d e c failed st step.shows looks (same_held m _ st looks_there.brings step.goes_on.kept.latches_fit) uses; goes_on = looking_goes_on m id looked looks_there step.goes_on }
 
     pub looked_only : (new : Machine) × PageComes id m new × MayStep e then new
     looked_only = (looked, looks_there, steps_then)
@@ -127,7 +119,7 @@ module _ (d e : DiskModel) (c : RunningCore) (m : Machine) (id : ℕ) (step : Ma
         ∙ ap (λ (l : List Use). with_uses l (with_disk m.store m.files m.clock m)) (kept.1 ∙ sym step.shows.uses)
 
     pub shows_still : ShowsMachine e then m
-    shows_still = subst (λ (x : Machine). ShowsMachine e then x) same_machine (shows_store m d e c failed st step.shows looks uses)
+    shows_still = subst (λ (x : Machine). ShowsMachine e then x) same_machine (shows_store m d e c failed st step.shows looks (ap (λ (s : StoreState). modes (with_disk s m.files m.clock m)) (kept.0 ∙ sym step.shows.store)) uses)
 
     stays_so : MayStep e then m
     stays_so = record { shows = shows_still; goes_on = step.goes_on }

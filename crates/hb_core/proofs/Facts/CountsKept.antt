@@ -1,20 +1,15 @@
 -- What calls make of the counts of a core: no more operations of a kind were counted than steps, and the file's height rises by growths.
-use Rattle.std.proofs.Common.{◌≡◌, inl, inr, ℕ, ◌+◌, ◌-◌, ◌^◌, ◌≤◌, ◌==◌, Bool, true, false, cond, List, Option, Some, None, sym, ap, ◌∙◌, subst, arith}
+use Rattle.hb_core.proofs.Facts.Names.{◌≡◌, inl, inr, ℕ, ◌+◌, ◌≤◌, Bool, true, false, cond, List, Option, Some, None, sym, ap, ◌∙◌, subst, arith, Meta, Use, Line, StoreState, RunningCore, begun_core}
+use Rattle.std.proofs.Common.{◌-◌, ◌^◌, ◌==◌}
 use Rattle.hb_frag.specs.declared.pages.LivePage.{LivePage}
-use Rattle.hb_layout.specs.declared.meta.Meta.{Meta}
 use Rattle.hb_ops.specs.Operations.{change_of}
 use Rattle.hb_ops.specs.declared.operations.Op.{Op}
 use Rattle.hb_ops.specs.declared.operations.Op.TheVariants as ops
-use Rattle.hb_pool.specs.Frames.{Use}
-use Rattle.hb_set.specs.declared.scripts.Line.{Line}
 use Rattle.hb_store.specs.Calls.{read_here}
-use Rattle.hb_store.specs.States.{StoreState}
 use Rattle.hb_core.specs.declared.counts.TidyCounts.{TidyCounts}
 use Rattle.hb_core.specs.Counting.{CountsFlush, CountsOp, CountsStay, CountsStep, CountsWithin}
 use Rattle.hb_core.specs.Counts.{counted}
 use Rattle.hb_outside.specs.Memory.{next_count}
-use Rattle.hb_core.specs.Showing.{RunningCore}
-use Rattle.hb_core.specs.Taking.{begun_core}
 
 -- ---- no more operations of a kind were counted than steps
 

@@ -1,23 +1,14 @@
 -- How many lines have no answer after a step: one less where it answered one, and else as many.
-use Rattle.std.proofs.Common.{◌≡◌, ◌≢◌, inl, inr, ℕ, zero, suc, ◌+◌, not, Bool, true, false, cond, count_by, List, [], ◌∷◌, ◌++◌, length, Option, Some, None, IfSome, refl, sym, ap, ◌∙◌, subst, arith, append-nil, length-append}
+use Rattle.hb_core.proofs.Facts.Names.{◌≡◌, ◌≢◌, inl, inr, ℕ, zero, suc, ◌+◌, Bool, true, false, cond, List, [], ◌∷◌, ◌++◌, length, Option, Some, None, IfSome, refl, sym, ap, ◌∙◌, subst, arith, append-nil, append_cancel_left, answers_are_timed, order_grows, Machine, given_by, left_count, StepsTo, Outcome, AreRising, Answered, Line}
+use Rattle.std.proofs.Common.{not, count_by, length-append}
 use Rattle.std.specs.List.{Contains}
 use Rattle.std.specs.Option.{IsSomeAnd}
-use Rattle.std.proofs.lemmas.List.{append_cancel_left}
 use Rattle.std.proofs.lemmas.List.Sums.{sum_by-cons}
-use Rattle.hb_core.proofs.Memory.Moments.{answers_are_timed}
-use Rattle.hb_core.proofs.Facts.NextLines.{IsNextOf, above_all, next_is, now_answered, unanswered_same}
-use Rattle.hb_core.proofs.Facts.StepLines.{LinesAfter, PlaceSettled, lines_after}
-use Rattle.hb_core.proofs.Facts.Ways.{order_grows}
-use Rattle.hb_core.specs.KeptSequence.{LinesInSequence, awaited_number}
-use Rattle.hb_core.specs.Machines.{Machine}
-use Rattle.hb_core.specs.Performing.{given_by}
-use Rattle.hb_core.specs.Runs.{left_count}
-use Rattle.hb_core.specs.Steps.{StepsTo}
-use Rattle.hb_core.specs.declared.outcomes.Outcome.{Outcome}
+use Rattle.hb_steps.proofs.Facts.NextLines.{IsNextOf, above_all, next_is, now_answered, unanswered_same}
+use Rattle.hb_steps.proofs.Facts.StepLines.{LinesAfter, PlaceSettled, lines_after}
+use Rattle.hb_steps.specs.KeptSequence.{LinesInSequence, awaited_number}
 use Rattle.hb_point.specs.SessionRows.{is_answered, next_line}
-use Rattle.hb_set.specs.Order.{AreRising, IsAbove}
-use Rattle.hb_set.specs.declared.scripts.Answered.{Answered}
-use Rattle.hb_set.specs.declared.scripts.Line.{Line}
+use Rattle.hb_set.specs.Order.{IsAbove}
 
 -- how many of the lines have no answer, and whether one has none, as a number
 abbrev open_count : List Answered → List Line → ℕ

@@ -1,22 +1,13 @@
 -- What crashes leave of a run, one step more.
-use Rattle.std.proofs.Common.{◌≡◌, ◌⊎◌, inl, inr, ℕ, ◌+◌, ◌≤◌, List, ◌++◌, get_or, All, sym, subst, arith}
-use Rattle.std.proofs.lemmas.List.Elements.{All-append}
-use Rattle.hb_core.proofs.Facts.PrefixImages.{prefix_less, prefix_longer, settled_prefix}
-use Rattle.hb_core.proofs.TwoSteps.SinglePlaces.{no_place, one_place, stands_longer}
-use Rattle.hb_core.specs.KeptMachine.{CoreKeeps}
-use Rattle.hb_core.specs.KeptOrder.{IsSettledIn, StandsInOrder, StandsSomewhere}
-use Rattle.hb_core.specs.Machines.{Files, Machine, settled_count}
+use Rattle.hb_core.proofs.Facts.Names.{◌≡◌, ◌⊎◌, inl, inr, ℕ, ◌+◌, ◌≤◌, List, ◌++◌, All, sym, subst, arith, All-append, prefix_less, settled_prefix, CoreKeeps, Files, Machine, settled_count, IsPrefixImage, CrashesTo, HoldsSince, RunningLaws, Leaves-weaker, Leaves, DiskModel, IsDisk, RecordSet, Answered, OpensToEither, StoreKeeps}
+use Rattle.std.proofs.Common.{get_or}
+use Rattle.hb_steps.proofs.Facts.PrefixImages.{prefix_longer}
+use Rattle.hb_steps.proofs.TwoSteps.SinglePlaces.{no_place, one_place, stands_longer}
+use Rattle.hb_steps.specs.KeptOrder.{IsSettledIn, StandsInOrder, StandsSomewhere}
 use Rattle.hb_core.proofs.Facts.RunDisks.{opens_kept}
-use Rattle.hb_core.specs.MomentLaws.{IsPrefixImage}
-use Rattle.hb_core.specs.Runs.{CrashesTo, HoldsSince, RunningLaws}
-use Rattle.hb_disk.proofs.Facts.RunLaws.{Leaves-then, Leaves-weaker}
-use Rattle.hb_disk.specs.Calls.{Leaves}
-use Rattle.hb_disk.specs.Model.{DiskModel, IsDisk}
+use Rattle.hb_disk.proofs.Facts.RunLaws.{Leaves-then}
 use Rattle.hb_lemmas.proofs.Lists.{All-behind}
-use Rattle.hb_set.specs.Machine.{RecordSet}
 use Rattle.hb_set.specs.Order.{Entry}
-use Rattle.hb_set.specs.declared.scripts.Answered.{Answered}
-use Rattle.hb_store.specs.Keeps.{OpensToEither, StoreKeeps}
 
 -- The machine at the end of a run, and the one after a step more: both keep all that they should over a disk that tells.
 pub record StepKeepsAll (n : RecordSet) (e f : DiskModel) (mid next : Machine) (answers given : List Answered) : Type 0 where

@@ -1,31 +1,21 @@
 -- What a step leaves of the disk: only the file may read otherwise, and at each of its moments a crash leaves the durable file
 -- or the last one.
-use Rattle.std.proofs.Common.{◌≡◌, inl, inr, ℕ, ◌+◌, ◌≤◌, true, List, Option, Some, None, IsSome, refl, sym, ap, ◌∙◌, subst, arith}
+use Rattle.hb_core.proofs.Facts.Names.{◌≡◌, inl, inr, ℕ, ◌+◌, ◌≤◌, true, List, Option, Some, None, IsSome, refl, sym, ap, ◌∙◌, subst, arith, Files, Machine, ChangesFile, RunningCore, ShowsMachine, Touches, Outcome, Becomes-read, Leaves-start, Leaves-weaker, Torn-itself, Becomes, Leaves, DiskModel, IsDisk, has_value, not_none, file_size, Meta, FileState, Use, StoreState, in_memory, OpensToEither, StoreKeeps, same_Some}
 use Rattle.std.specs.Option.{is_some}
-use Rattle.hb_core.proofs.Machines.FlushedFrames.{dirty_frame}
-use Rattle.hb_core.specs.KeptMachine.{MachineKeeps}
-use Rattle.hb_core.specs.Machines.{Files, Machine}
-use Rattle.hb_core.specs.Runs.{ChangesFile}
-use Rattle.hb_core.specs.Showing.{RunningCore, ShowsMachine}
-use Rattle.hb_core.specs.Touching.{Touches}
-use Rattle.hb_core.specs.declared.outcomes.Outcome.{Outcome}
-use Rattle.hb_disk.proofs.Facts.BecomesLaws.{Becomes-read, Becomes-then, Becomes-weaker}
-use Rattle.hb_disk.proofs.Facts.RunLaws.{Leaves-read, Leaves-start, Leaves-weaker}
-use Rattle.hb_disk.proofs.Facts.TornLaws.{Torn-itself, Torn-twice, Torn-wider}
-use Rattle.hb_disk.specs.Calls.{Becomes, Leaves, Then}
-use Rattle.hb_disk.specs.Model.{DiskModel, IsDisk, Torn}
-use Rattle.hb_lemmas.proofs.Options.{has_value, not_none, some_value}
-use Rattle.hb_layout.specs.Offsets.{file_size, log_start, page_offset}
-use Rattle.hb_layout.specs.declared.meta.Meta.{Meta}
-use Rattle.hb_ops.specs.Files.{FileState}
-use Rattle.hb_pool.specs.Frames.{Use}
+use Rattle.hb_steps.proofs.Machines.FlushedFrames.{dirty_frame}
+use Rattle.hb_steps.specs.KeptMachine.{MachineKeeps}
+use Rattle.hb_disk.proofs.Facts.BecomesLaws.{Becomes-then, Becomes-weaker}
+use Rattle.hb_disk.proofs.Facts.RunLaws.{Leaves-read}
+use Rattle.hb_disk.proofs.Facts.TornLaws.{Torn-twice, Torn-wider}
+use Rattle.hb_disk.specs.Calls.{Then}
+use Rattle.hb_disk.specs.Model.{Torn}
+use Rattle.hb_lemmas.proofs.Options.{some_value}
+use Rattle.hb_layout.specs.Offsets.{log_start, page_offset}
 use Rattle.hb_space.specs.declared.form.TheConstants.{PAGE}
 use Rattle.hb_store.specs.Held.{oldest_dirty}
 use Rattle.hb_store.specs.Opening.{OpensTo}
-use Rattle.hb_store.specs.States.{StoreState, in_memory}
 use Rattle.hb_store.specs.Switching.{TornSwitch}
-use Rattle.hb_store.specs.Keeps.{OpensToEither, PartsOpen, StoreKeeps}
-use Rattle.std.proofs.lemmas.Option.{same_Some}
+use Rattle.hb_store.specs.Keeps.{PartsOpen}
 use Rattle.hb_layout.proofs.Facts.Parts.{front_within, log_within, page_within}
 use Rattle.hb_store.proofs.Facts.PlaceWrites.{switch_within}
 

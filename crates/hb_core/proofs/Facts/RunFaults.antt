@@ -1,22 +1,16 @@
 -- The counts of faults over a run, one step more.
-use Rattle.std.proofs.Common.{◌≡◌, ◌⊎◌, ◌↔◌, inl, inr, ℕ, zero, suc, ◌≤◌, List, [], ◌∷◌, ◌++◌, map, Some, Result, IsErr, sym, ap, ◌∙◌, subst, arith}
+use Rattle.hb_core.proofs.Facts.Names.{◌≡◌, ◌⊎◌, ◌↔◌, inl, inr, ℕ, zero, suc, ◌≤◌, List, [], ◌∷◌, ◌++◌, Some, Result, sym, ap, ◌∙◌, subst, arith, same_Some, Machine, given_by, CountsFaults, without_clock, RunningCore, Touches, Outcome, DiskModel, Answered}
+use Rattle.std.proofs.Common.{map, IsErr}
 use Rattle.std.proofs.Math.Nat.{eq-or-lt_of_le}
-use Rattle.std.proofs.lemmas.Option.{same_Some}
-use Rattle.hb_core.proofs.Facts.LogAndStop.{SaysStop}
-use Rattle.hb_core.specs.Machines.{Machine}
-use Rattle.hb_core.specs.Performing.{given_by}
-use Rattle.hb_core.specs.Runs.{CountsFaults, HasReadFault, without_clock}
-use Rattle.hb_core.specs.Showing.{RunningCore}
-use Rattle.hb_core.specs.Touching.{EndsByRead, ReadsAtMost, Touches}
-use Rattle.hb_core.specs.declared.outcomes.Outcome.{Outcome}
-use Rattle.hb_core.specs.declared.outcomes.Outcome.TheVariants as outcomes
+use Rattle.hb_steps.proofs.Facts.LogAndStop.{SaysStop}
+use Rattle.hb_core.specs.Runs.{HasReadFault}
+use Rattle.hb_core.specs.Touching.{EndsByRead, ReadsAtMost}
+use Rattle.hb_steps.specs.declared.outcomes.Outcome.TheVariants as outcomes
 use Rattle.hb_disk.specs.Calls.{WriteFaults}
-use Rattle.hb_disk.specs.Model.{DiskModel}
 use Rattle.hb_outside.proofs.Facts.CountLaws.{Rose-later}
 use Rattle.hb_outside.specs.Streams.{Rose}
 use Rattle.hb_set.specs.declared.commands.Reply.{Reply}
 use Rattle.hb_set.specs.declared.commands.Reply.TheVariants as replies
-use Rattle.hb_set.specs.declared.scripts.Answered.{Answered}
 use Rattle.hb_store.specs.declared.stops.StopWhy.{StopWhy}
 use Rattle.hb_store.specs.declared.stops.StopWhy.TheVariants as stops
 

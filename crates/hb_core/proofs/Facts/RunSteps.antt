@@ -1,45 +1,19 @@
 -- A run of a core: it begins, and goes on by a step.
-use Rattle.std.proofs.Common.{◌≡◌, ℕ, ◌≤◌, List, [], ◌∷◌, ◌++◌, All, Option, Some, None, IfSome, IsSome, refl, sym, ap, ◌∙◌, subst, arith, append-nil, append_assoc}
-use Rattle.std.proofs.lemmas.List.{append_cancel_left}
-use Rattle.std.proofs.lemmas.List.Elements.{All-append, All-nil, All-weaker}
+use Rattle.hb_core.proofs.Facts.Names.{◌≡◌, ℕ, ◌≤◌, List, [], ◌∷◌, ◌++◌, All, Option, Some, None, IfSome, IsSome, refl, sym, ap, ◌∙◌, subst, arith, append-nil, append_cancel_left, All-append, All-nil, prefix_less, settled_prefix, steps_go_on, answers_are_timed, order_grows, HasSoundFile, CoreKeeps, Files, Machine, settled_count, given_by, IsPrefixImage, AreAnswers, ChangesFile, CountsFaults, CrashesTo, HasRun, HoldsSince, RunningLaws, left_count, RunningCore, ShowsMachine, StepsTo, Touches, MayStep, Outcome, Becomes-read, Leaves-start, Torn-itself, Becomes, DiskModel, IsDisk, file_size, IsActor, All-alone, has_value, RecordSet, Answered, StoreKeeps, StoreState}
+use Rattle.std.proofs.Common.{append_assoc}
+use Rattle.std.proofs.lemmas.List.Elements.{All-weaker}
 use Rattle.hb_core.proofs.Facts.AnswersGiven.{answers_more, given_at, given_now}
 use Rattle.hb_core.proofs.Facts.LinesLeft.{left_after, left_more}
-use Rattle.hb_core.proofs.Facts.LogAndStop.{size_stands, step_tells}
-use Rattle.hb_core.proofs.Facts.PrefixImages.{prefix_less, settled_prefix}
+use Rattle.hb_steps.proofs.Facts.LogAndStop.{size_stands, step_tells}
 use Rattle.hb_core.proofs.Facts.RunCrashes.{crashes_more}
 use Rattle.hb_core.proofs.Facts.RunDisks.{file_more, file_touched, moments_touched, opens_kept, shows_them, told_before}
 use Rattle.hb_core.proofs.Facts.RunFaults.{faults_more, no_fault_in}
-use Rattle.hb_core.proofs.Machines.GoingOn.{steps_go_on}
-use Rattle.hb_core.proofs.Memory.Moments.{answers_are_timed}
-use Rattle.hb_core.proofs.Orders.PendingKept.{grown_by}
-use Rattle.hb_core.proofs.Facts.Ways.{order_grows}
-use Rattle.hb_core.specs.Keeps.{HasSoundFile}
-use Rattle.hb_core.specs.KeptMachine.{CoreKeeps}
-use Rattle.hb_core.specs.Machines.{Files, Machine, settled_count}
-use Rattle.hb_core.specs.Performing.{given_by}
-use Rattle.hb_core.specs.MomentLaws.{IsPrefixImage}
-use Rattle.hb_core.specs.Runs.{AreAnswers, ChangesFile, CountsFaults, CrashesTo, HasRun, HoldsSince, RunningLaws, left_count}
-use Rattle.hb_core.specs.Showing.{RunningCore, ShowsMachine}
-use Rattle.hb_core.specs.Steps.{StepsInSequence, StepsTo}
-use Rattle.hb_core.specs.SteppingLaws.{IsBetween}
-use Rattle.hb_core.specs.Touching.{Touches}
-use Rattle.hb_core.specs.Working.{MayGoOn, MayStep}
-use Rattle.hb_core.specs.declared.outcomes.Outcome.{Outcome}
-use Rattle.hb_disk.proofs.Facts.BecomesLaws.{Becomes-read}
+use Rattle.hb_steps.proofs.Orders.PendingKept.{grown_by}
+use Rattle.hb_steps.specs.Steps.{StepsInSequence}
+use Rattle.hb_steps.specs.SteppingLaws.{IsBetween}
+use Rattle.hb_core.specs.Going.{MayGoOn}
 use Rattle.hb_disk.proofs.Facts.FaultLaws.{Stays-same}
 use Rattle.hb_disk.proofs.Facts.RewriteLaws.{Becomes-tells}
-use Rattle.hb_disk.proofs.Facts.RunLaws.{Leaves-start}
-use Rattle.hb_disk.proofs.Facts.TornLaws.{Torn-itself}
-use Rattle.hb_disk.specs.Calls.{Becomes}
-use Rattle.hb_disk.specs.Model.{DiskModel, IsDisk}
-use Rattle.hb_layout.specs.Offsets.{file_size}
-use Rattle.hb_space.specs.Actors.{IsActor}
-use Rattle.hb_lemmas.proofs.Lists.{All-alone}
-use Rattle.hb_lemmas.proofs.Options.{has_value}
-use Rattle.hb_set.specs.Machine.{RecordSet}
-use Rattle.hb_set.specs.declared.scripts.Answered.{Answered}
-use Rattle.hb_store.specs.Keeps.{StoreKeeps}
-use Rattle.hb_store.specs.States.{StoreState}
 
 -- ---- it begins
 

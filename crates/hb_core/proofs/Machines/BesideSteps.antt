@@ -1,76 +1,48 @@
 -- A machine of which a caller changed no more than the jobs that wait, the pages in memory that nobody holds, and the stop, keeps what it
 -- kept.
-use Rattle.std.proofs.Common.{◌≡◌, inl, inr, ℕ, ◌<◌, ◌≤◌, ◌^◌, List, [], ◌∷◌, length, All, Option, Some, None, IfSome, IsSome, refl, sym, ap, ◌∙◌, subst, arith}
+use Rattle.std.proofs.Common.{◌≡◌, ℕ, ◌<◌, ◌≤◌, ◌^◌, List, [], ◌∷◌, length, All, Option, Some, None, IfSome, refl, sym, ap, ◌∙◌, subst, arith}
+use Rattle.hb_steps.proofs.Walks.WorkersKept.{works_held}
+use Rattle.hb_steps.proofs.Memory.BroughtPages.{still_held}
+use Rattle.hb_steps.proofs.Latches.SameLatches.{fit_again, HasHeld, same_modes}
 use Rattle.std.proofs.lemmas.List.Elements.{All-cons, All-nil, All-weaker}
 use Rattle.hb_activity.specs.declared.activities.Activity.TheVariants as at
 use Rattle.hb_activity.specs.declared.jobs.Job.{Job}
 use Rattle.hb_activity.specs.Classes.{job_in_work, line_in_hand}
-use Rattle.hb_activity.specs.Walks.{walk_held}
 use Rattle.hb_frag.specs.declared.pages.Page.TheVariants.{Live}
-use Rattle.hb_latch.specs.declared.modes.Mode.{Mode}
-use Rattle.hb_latch.specs.Tables.{mode_at}
 use Rattle.hb_layout.specs.declared.meta.Meta.{Meta}
 use Rattle.hb_layout.specs.Limits.{IsLayout}
 use Rattle.hb_layout.specs.Offsets.{log_start}
-use Rattle.hb_lemmas.proofs.Options.{at_value, has_value, if_value}
-use Rattle.hb_ops.proofs.Facts.PageNumberLaws.{live_so}
-use Rattle.hb_ops.specs.Files.{if_live}
+use Rattle.hb_lemmas.proofs.Options.{at_value, if_value}
 use Rattle.hb_pool.specs.Frames.{Use}
 use Rattle.hb_set.specs.Machine.{RecordSet}
-use Rattle.hb_space.specs.Actors.{IsActor}
 use Rattle.hb_store.specs.Calls.{KeepsAllButPages}
-use Rattle.hb_store.specs.States.{StoreState, in_memory}
+use Rattle.hb_store.specs.States.{StoreState}
 use Rattle.hb_store.specs.declared.stops.StopWhy.{StopWhy}
 use Rattle.hb_wal.specs.Log.{Waiting, mark_of}
-use Rattle.hb_core.proofs.Files.SoundFiles.{brought_shown, files_hold, has_sound_file}
-use Rattle.hb_core.proofs.Latches.LatchesStay.{same_latches, walk_latched}
-use Rattle.hb_core.proofs.Machines.AddedJobs.{JobsFit, added_fit}
-use Rattle.hb_core.proofs.Memory.KeptPages.{brought, keeps_pages, pages_kept}
-use Rattle.hb_core.proofs.Facts.StillThere.{may_or_not}
-use Rattle.hb_core.proofs.Room.RoomKept.{KnowsOf, all_know, free_knows, knows_as, put_latched, puts_again, split_latched, splits_again}
+use Rattle.hb_steps.proofs.Files.SoundFiles.{brought_shown, files_hold, has_sound_file}
+use Rattle.hb_steps.proofs.Machines.AddedJobs.{JobsFit, added_fit}
+use Rattle.hb_steps.proofs.Memory.KeptPages.{brought, keeps_pages, pages_kept}
+use Rattle.hb_steps.proofs.Room.RoomKept.{all_know, knows_held}
 use Rattle.hb_core.proofs.Running.Frames.{fetched_pins}
-use Rattle.hb_core.proofs.Walks.MergesKept.{place_latched}
-use Rattle.hb_core.proofs.Walks.WalksKept.{StandsInSpace, all_stand, each_stands, free_stands, parent_latched, stands_again}
-use Rattle.hb_core.proofs.Walks.WorkersKept.{none_stands, stands_again as works_again}
+use Rattle.hb_steps.proofs.Walks.WalksKept.{all_stand, each_stands, stands_held}
 use Rattle.hb_core.specs.Between.{LetsWait, PageComes, with_waiting}
 use Rattle.hb_core.specs.BetweenLaws.{LookingGoesOn, LookingKeepsAll, WaitingGoesOn, WaitingKeepsAll}
-use Rattle.hb_core.specs.Keeps.{HasSoundFile, HoldsPagesOfFile, KnowsRoom, LatchesFit, WalksInSpace}
-use Rattle.hb_core.specs.KeptFits.{AttributesFit, IsBoxOf, JobFits, LineFits, RunsWithStore, WorkersStand, boxes_left, walking_job}
-use Rattle.hb_core.specs.KeptLines.{LinesFit, LogInPlace, MetaWithinLimits}
-use Rattle.hb_core.specs.KeptMachine.{CoreKeeps, MachineKeeps}
-use Rattle.hb_core.specs.KeptOrder.{FollowMarks, HasLegalOrder, HasPendingPrefix, IsSettledIn}
-use Rattle.hb_core.specs.KeptPlaces.{MarksRise, RepliesStand}
-use Rattle.hb_core.specs.KeptSequence.{IsInSequence, LinesInSequence}
-use Rattle.hb_core.specs.Machines.{Files, Machine, live_here, settled_count, stopped_for, with_disk, with_uses}
-use Rattle.hb_core.specs.Performing.{latches_held, mode_among}
-use Rattle.hb_core.specs.Using.{FramesFit, pins_of}
-use Rattle.hb_core.specs.Working.{MayGoOn}
-
--- the pages that somebody holds are there as they were
-abbrev pub HeldStay : Machine → StoreState → Type 0
-HeldStay m st = (actor id : ℕ) (mode : Mode) → mode_at m.latches actor id ≡ Some mode → IsSome (in_memory m.store id) → in_memory st id ≡ in_memory m.store id
+use Rattle.hb_steps.specs.Keeps.{HasSoundFile, HoldsPagesOfFile, KnowsRoom, LatchesFit, WalksInSpace}
+use Rattle.hb_steps.specs.KeptFits.{AttributesFit, IsBoxOf, JobFits, LineFits, RunsWithStore, WorkersStand, boxes_left}
+use Rattle.hb_steps.specs.KeptLines.{LinesFit, LogInPlace, MetaWithinLimits}
+use Rattle.hb_steps.specs.KeptMachine.{CoreKeeps, MachineKeeps}
+use Rattle.hb_steps.specs.KeptOrder.{FollowMarks, HasLegalOrder, HasPendingPrefix, IsSettledIn}
+use Rattle.hb_steps.specs.KeptPlaces.{MarksRise, RepliesStand}
+use Rattle.hb_steps.specs.KeptSequence.{IsInSequence, LinesInSequence}
+use Rattle.hb_steps.specs.Machines.{Files, Machine, settled_count, stopped_for, with_disk, with_uses, modes}
+use Rattle.hb_steps.specs.Using.{FramesFit, pins_of}
+use Rattle.hb_core.specs.Going.{MayGoOn}
 
 module _ (m : Machine) (jobs : List Job) (st : StoreState) (uses : List Use) (stop : Option StopWhy) where
   abbrev pub beside : Machine
   beside = record m { jobs = jobs; store = st; uses = uses; stop = stop }
 
-  module _ (keeps : MachineKeeps m) (rest : KeepsAllButPages m.store st) (held : HeldStay m st) where
-    -- ---- what an actor holds
-
-    latched_same : (actor id : ℕ) (mode : Mode) → mode_at m.latches actor id ≡ Some mode → live_here st id ≡ live_here m.store id
-    latched_same actor id mode holds =
-        let used = keeps.latches_fit.used actor id mode holds in
-        ap if_live (held actor id mode holds (has_value (in_memory m.store id) (Live used.0) used.1))
-
-    own_same : (actor id : ℕ) (mode : Mode) → IsActor actor → mode_among id (latches_held m.store (m.activity actor)) ≡ Some mode → live_here st id ≡ live_here m.store id
-    own_same actor id mode may among = latched_same actor id mode (keeps.latches_fit.exact actor id may ∙ among)
-
-    walk_same : (actor id : ℕ) → IsActor actor → walk_held (m.activity actor) ≡ Some id → live_here st id ≡ live_here m.store id
-    walk_same actor id may walks =
-        let old = keeps.latches_fit.walking actor id may walks in
-        let latch = walk_latched (m.activity actor) m.store id old.0 walks (ap if_live old.1) in
-        own_same actor id latch.0 may latch.1
-
+  module _ (keeps : MachineKeeps m) (rest : KeepsAllButPages m.store st) (held : (actor : ℕ) → HasHeld m actor st) where
     -- ---- the parts
 
     same_meta : m.store.meta ≡ st.meta
@@ -117,61 +89,19 @@ module _ (m : Machine) (jobs : List Job) (st : StoreState) (uses : List Use) (st
     replies = record { awaits = keeps.replies_stand.awaits; answers = keeps.replies_stand.answers }
 
     latches : LatchesFit beside
-    latches = record {
-      compatible = keeps.latches_fit.compatible;
-      exact = λ actor page may.
-          keeps.latches_fit.exact actor page may
-          ∙ sym (ap (mode_among page) (same_latches (m.activity actor) m.store st (λ id walks. walk_same actor id may walks)));
-      used = λ actor page mode holds.
-          let old = keeps.latches_fit.used actor page mode holds in
-          (old.0, held actor page mode holds (has_value (in_memory m.store page) (Live old.0) old.1) ∙ old.1);
-      walking = λ actor id may walks.
-          let old = keeps.latches_fit.walking actor id may walks in
-          (old.0, live_so (in_memory st id) old.0 (walk_same actor id may walks ∙ ap if_live old.1));
-    }
+    latches = fit_again m keeps.latches_fit beside (λ actor. refl) held
 
-    at_rest : (actor : ℕ) → ¬ (IsActor actor) → m.activity actor ≡ at.SessionIdle
-    at_rest actor none = keeps.nobody_else actor none
-
-    own_in_space : (actor : ℕ) → IsActor actor → StandsInSpace st (m.activity actor)
-    own_in_space actor may = stands_again (m.activity actor) m.store st (each_stands m keeps.walk_in_space actor)
-        (λ id page walks live. sym (walk_same actor id may walks) ∙ live)
-        (λ job parent page is live. let latch = parent_latched m.store (m.activity actor) job parent is in own_same actor parent latch.0 may latch.1 ∙ live)
-        (λ place is.
-        let latched = place_latched m.store (m.activity actor) place is in
-        record {
-          parent = λ page live. own_same actor place.parent latched.parent.0 may latched.parent.1 ∙ live;
-          pair = λ pair pair_is page live. let latch = latched.pair pair pair_is in own_same actor pair.keep latch.0 may latch.1 ∙ live;
-        })
+    frames_beside : FramesFit st uses (modes m) → FramesFit st uses (modes beside)
+    frames_beside frames = subst (FramesFit st uses) (sym (same_modes m keeps.latches_fit beside (λ actor. refl) held)) frames
 
     in_space : WalksInSpace beside
-    in_space = all_stand beside (λ actor. elim (may_or_not actor) [
-      | inl may ↦ own_in_space actor may
-      | inr none ↦ subst (StandsInSpace st) (sym (at_rest actor none)) (free_stands st at.SessionIdle (record { walk = refl; latches = λ st. refl; merging = refl }))
-    ])
+    in_space = all_stand beside (λ actor. stands_held m keeps.latches_fit actor st (held actor) (each_stands m keeps.walk_in_space actor))
 
     workers : WorkersStand beside
-    workers actor = elim (may_or_not actor) [
-      | inl may ↦ works_again m.store st (walk_held (m.activity actor)) (walking_job (m.activity actor)) same_height (λ id page walks live. sym (walk_same actor id may walks) ∙ live) (keeps.workers_stand actor)
-      | inr none ↦ none_stands st (m.activity actor) (ap walking_job (at_rest actor none))
-    ]
-      where
-        same_height : m.store.meta.height ≤ st.meta.height
-        same_height = let same = ap (λ (s : StoreState). s.meta.height) rest in omega (arith, same)
-
-    own_knows : (actor : ℕ) → IsActor actor → KnowsOf beside (m.activity actor)
-    own_knows actor may = record {
-      splits = λ id line is. splits_again m beside (ap (λ (s : StoreState). s.meta.dcap) rest) line id (λ page live. own_same actor id _ may (split_latched m.store (m.activity actor) line id is) ∙ live) (keeps.room_known.splits actor id line is);
-      puts = λ source fresh line is.
-          let both = put_latched m.store (m.activity actor) line source fresh is in
-          puts_again m beside (ap (λ (s : StoreState). s.meta.dcap) rest) line source fresh (λ page live. own_same actor source _ may both.0 ∙ live) (λ page live. own_same actor fresh _ may both.1 ∙ live) (keeps.room_known.puts actor source fresh line is);
-    }
+    workers actor = works_held m keeps.latches_fit actor st (let same = ap (λ (s : StoreState). s.meta.height) rest in omega (arith, same)) (held actor) (keeps.workers_stand actor)
 
     room : KnowsRoom beside
-    room = all_know beside (λ actor. elim (may_or_not actor) [
-      | inl may ↦ own_knows actor may
-      | inr none ↦ knows_as beside (m.activity actor) at.SessionIdle (at_rest actor none) (free_knows beside at.SessionIdle (record { walk = refl; latches = λ st. refl; merging = refl }))
-    ])
+    room = all_know beside (λ actor. knows_held m beside (ap (λ (s : StoreState). s.meta.dcap) rest) actor (held actor) (record { splits = keeps.room_known.splits actor; puts = keeps.room_known.puts actor }))
 
     same_groups : m.store.log.groups ≡ st.log.groups
     same_groups = sym (ap (λ (s : StoreState). s.log.groups) rest)
@@ -180,7 +110,7 @@ module _ (m : Machine) (jobs : List Job) (st : StoreState) (uses : List Use) (st
     marks = subst (λ (groups : List Waiting). MarksRise (record beside { store = record st { log = record st.log { groups = groups } } })) same_groups
         (record { rising = keeps.marks_rise.rising; inside = keeps.marks_rise.inside })
 
-    pub beside_keeps : JobsFit m.store.meta.k jobs → HoldsPagesOfFile beside → FramesFit st uses m.latches → RunsWithStore beside → MachineKeeps beside
+    pub beside_keeps : JobsFit m.store.meta.k jobs → HoldsPagesOfFile beside → FramesFit st uses (modes m) → RunsWithStore beside → MachineKeeps beside
     beside_keeps fit pages frames runs = record {
       meta_within_limits = limits;
       log_in_place = in_place;
@@ -192,11 +122,10 @@ module _ (m : Machine) (jobs : List Job) (st : StoreState) (uses : List Use) (st
       awaits_inside = keeps.awaits_inside;
       answers_single = record { once = keeps.answers_single.once; outside = keeps.answers_single.outside };
       pages_of_file = pages;
-      frames_fit = frames;
+      frames_fit = frames_beside frames;
       classes = keeps.classes;
       nobody_else = keeps.nobody_else;
       latches_fit = latches;
-      no_other_latches = keeps.no_other_latches;
       box_locks_fit = keeps.box_locks_fit;
       searches_gather = keeps.searches_gather;
       walk_in_space = in_space;
@@ -235,7 +164,7 @@ module _ (m : Machine) (job : Job) (new : Machine) (fits : JobFits m.store.meta.
   waiting_fit all = added_fit m.store.meta.k (job ∷ []) m.jobs new.jobs (new.jobs, waits.adds, refl) (All-cons (JobFits m.store.meta.k) job [] fits (All-nil (JobFits m.store.meta.k))) all
 
   kept_waiting : MachineKeeps m → MachineKeeps (with_waiting new.jobs m)
-  kept_waiting keeps = beside_keeps m new.jobs m.store m.uses m.stop keeps refl (λ actor id mode holds there. refl) (waiting_fit keeps.attributes_fit.waiting) keeps.pages_of_file keeps.frames_fit keeps.runs
+  kept_waiting keeps = beside_keeps m new.jobs m.store m.uses m.stop keeps refl (λ actor id mode page holds there. there) (waiting_fit keeps.attributes_fit.waiting) keeps.pages_of_file keeps.frames_fit keeps.runs
 
   sound_waiting : (files : Files) → HasSoundFile m files → HasSoundFile (with_waiting new.jobs m) files
   sound_waiting files sound = has_sound_file (with_waiting new.jobs m) files (files_hold m files sound)
@@ -248,7 +177,7 @@ waiting_goes_on m job new fits waits goes_on = subst MayGoOn (sym waits.rest) (r
 
 pub waiting_keeps_all : WaitingKeepsAll
 waiting_keeps_all n m files job new fits waits all = subst (λ (x : Machine). CoreKeeps n x files) (sym waits.rest)
-    (beside_keeps_all m new.jobs m.store m.uses m.stop all.kept refl (λ actor id mode holds there. refl) n files all (kept_waiting m job new fits waits all.kept) (sound_waiting m job new fits waits files all.sound_file))
+    (beside_keeps_all m new.jobs m.store m.uses m.stop all.kept refl (λ actor id mode page holds there. there) n files all (kept_waiting m job new fits waits all.kept) (sound_waiting m job new fits waits files all.sound_file))
 
 -- ---- a page is looked at
 
@@ -259,14 +188,14 @@ module _ (m : Machine) (id : ℕ) (new : Machine) (looks : PageComes id m new) w
   pages_looked : MachineKeeps m → HoldsPagesOfFile looked
   pages_looked keeps = pages_kept looked (brought m (λ other. other ≡ id) new.store looks.brings (keeps_pages m keeps.meta_within_limits keeps.pages_of_file))
 
-  frames_looked : MachineKeeps m → FramesFit new.store new.uses m.latches
+  frames_looked : MachineKeeps m → FramesFit new.store new.uses (modes m)
   frames_looked keeps = record {
     tied = looks.tied;
     pins = λ q. ap (λ (l : List Use). pins_of l q) looks.uses ∙ fetched_pins id m.uses keeps.frames_fit.tied.pool.distinct q ∙ keeps.frames_fit.pins q;
   }
 
   kept_looked : MachineKeeps m → MachineKeeps looked
-  kept_looked keeps = beside_keeps m m.jobs new.store new.uses m.stop keeps looks.brings.rest (λ actor q mode holds there. looks.brings.stays q (inl (actor, mode, holds)) there) keeps.attributes_fit.waiting (pages_looked keeps) (frames_looked keeps)
+  kept_looked keeps = beside_keeps m m.jobs new.store new.uses m.stop keeps looks.brings.rest (λ actor q mode page holds there. still_held m (λ other. other ≡ id) new.store looks.brings actor q mode (Live page) holds there) keeps.attributes_fit.waiting (pages_looked keeps) (frames_looked keeps)
       (λ running. (ap (λ (s : StoreState). s.stopped) looks.brings.rest) ∙ keeps.runs running)
 
   sound_looked : (files : Files) → m.files ≡ Some files → HasSoundFile m files → HasSoundFile looked files
@@ -280,13 +209,13 @@ looking_goes_on m id new looks goes_on = subst MayGoOn (sym looks.rest) (record 
 
 pub looking_keeps_all : LookingKeepsAll
 looking_keeps_all n m files id new looks all = subst (λ (x : Machine). CoreKeeps n x files) (sym looks.rest)
-    (beside_keeps_all m m.jobs new.store new.uses m.stop all.kept looks.brings.rest (λ actor q mode holds there. looks.brings.stays q (inl (actor, mode, holds)) there) n files all (kept_looked m id new looks all.kept) (sound_looked m id new looks files all.told all.sound_file))
+    (beside_keeps_all m m.jobs new.store new.uses m.stop all.kept looks.brings.rest (λ actor q mode page holds there. still_held m (λ other. other ≡ id) new.store looks.brings actor q mode (Live page) holds there) n files all (kept_looked m id new looks all.kept) (sound_looked m id new looks files all.told all.sound_file))
 
 -- ---- a machine is stopped
 
 pub stopped_goes_on : (m : Machine) (why : StopWhy) → MayGoOn m → MayGoOn (stopped_for why m)
 stopped_goes_on m why goes_on = record {
-  kept = beside_keeps m m.jobs m.store m.uses (Some why) goes_on.kept refl (λ actor id mode holds there. refl) goes_on.kept.attributes_fit.waiting goes_on.kept.pages_of_file goes_on.kept.frames_fit (λ never. absurd (stops never));
+  kept = beside_keeps m m.jobs m.store m.uses (Some why) goes_on.kept refl (λ actor id mode page holds there. there) goes_on.kept.attributes_fit.waiting goes_on.kept.pages_of_file goes_on.kept.frames_fit (λ never. absurd (stops never));
   sound = if_value m.files (HasSoundFile (stopped_for why m)) (λ files told. has_sound_file (stopped_for why m) files (files_hold m files (at_value m.files (HasSoundFile m) files told goes_on.sound)));
 }
   where

@@ -1,23 +1,12 @@
 -- Whose lock is against one, by the places of the activities; and what that says of the machine that a core shows.
-use Rattle.std.proofs.Common.{◌≡◌, ◌≢◌, inl, inr, ℕ, ◌+◌, ◌-◌, ◌<◌, ◌≤◌, List, length, get_or, slice_get, All, Option, Some, None, IfSome, IsSomeAnd, refl, sym, ap, ◌∙◌, subst, arith}
-use Rattle.std.proofs.lemmas.Bool.{cases_lt}
-use Rattle.std.proofs.lemmas.Option.{get_or_from_slice_get, slice_get_within}
+use Rattle.hb_core.proofs.Running.Names.{◌≡◌, ◌≢◌, inl, inr, ℕ, ◌+◌, ◌-◌, ◌<◌, ◌≤◌, List, length, get_or, Option, Some, None, IfSome, refl, sym, ap, ◌∙◌, subst, arith, cases_lt, get_or_from_slice_get, slice_get_within, Activity, BoxLock, DiskModel, IsActor, Line, StoreState, LineFits, MachineKeeps, Machine, RunningCore, ShowsMachine, HaveBoxes, NoneAgainst}
+use Rattle.std.proofs.Common.{slice_get, All, IsSomeAnd}
 use Rattle.hb_activity.specs.BoxLocks.{lock_of}
-use Rattle.hb_activity.specs.declared.activities.Activity.{Activity}
-use Rattle.hb_boxlock.specs.declared.locks.BoxLock.{BoxLock}
-use Rattle.hb_disk.specs.Model.{DiskModel}
-use Rattle.hb_space.specs.Actors.{IsActor}
-use Rattle.hb_set.specs.declared.scripts.Line.{Line}
-use Rattle.hb_store.specs.States.{StoreState}
-use Rattle.hb_core.proofs.Machines.LocksKept.{lock_box}
-use Rattle.hb_core.specs.KeptFits.{LineFits}
-use Rattle.hb_core.specs.KeptMachine.{MachineKeeps}
-use Rattle.hb_core.proofs.Walks.LockHolders.{holder_works}
+use Rattle.hb_steps.proofs.Machines.LocksKept.{lock_box}
+use Rattle.hb_steps.proofs.Walks.LockHolders.{holder_works}
 use Rattle.hb_boxlock.specs.Locking.{Excludes}
-use Rattle.hb_core.specs.Locking.{HasBoxFree, IsBoxInTheWay, LocksOut}
-use Rattle.hb_core.specs.Machines.{Machine}
-use Rattle.hb_core.specs.Showing.{RunningCore, ShowsMachine}
-use Rattle.hb_core.specs.Taking.{HaveBoxes, IsAgainst, IsFirstAgainst, NoneAgainst}
+use Rattle.hb_steps.specs.Locking.{HasBoxFree, IsBoxInTheWay, LocksOut}
+use Rattle.hb_core.specs.Taking.{IsAgainst, IsFirstAgainst}
 
 -- ---- place by place
 

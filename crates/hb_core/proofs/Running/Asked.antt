@@ -1,56 +1,16 @@
 -- What a decider is asked: a core that has the pages of a step has all that the decider relies on.
-use Rattle.std.proofs.Common.{◌≡◌, inl, inr, ℕ, ◌-◌, ◌<◌, ◌≤◌, List, Option, Some, None, MatchOption, IsSome, IfSome, refl, sym, ap, ◌∙◌, subst, arith}
-use Rattle.std.specs.Option.{option_and_then, option_map}
-use Rattle.std.proofs.lemmas.Bool.{cases_lt}
-use Rattle.hb_disk.specs.Model.{DiskModel}
-use Rattle.hb_space.specs.Boxes.{Area}
-use Rattle.hb_space.specs.Points.{IsPoint}
-use Rattle.hb_space.specs.declared.records.Record.{Record}
-use Rattle.hb_frag.specs.declared.pages.LivePage.{LivePage}
-use Rattle.hb_frag.specs.Leaves.{Placed}
-use Rattle.hb_latch.specs.declared.modes.Mode.{Mode}
-use Rattle.hb_latch.specs.declared.modes.Mode.TheVariants.{Shared, Exclusive}
-use Rattle.hb_space.specs.Actors.{IsActor}
-use Rattle.hb_layout.specs.declared.meta.Meta.{Meta}
+use Rattle.hb_core.proofs.Running.Names.{◌≡◌, inl, inr, ℕ, ◌-◌, ◌<◌, ◌≤◌, List, Option, Some, None, IsSome, IfSome, refl, sym, ap, ◌∙◌, subst, arith, option_and_then, option_map, cases_lt, DiskModel, Area, IsPoint, Record, LivePage, Placed, Mode, Shared, Exclusive, IsActor, Meta, if_live, Command, Insert, Delete, Lookup, Search, Line, Job, Wanted, Activity, Posters, Sessions, class_of, FitsFree, LeadsBelow, goal_of, job_mode, session_mode, walk_held, walk_point, child_of, in_mode, named_child, walk_next, wanted_of, wanted_page, WantsBoxes, MakesPage, MayBeAsked, StoreState, at_value, has_value, some_value, corner_ahead, has_last, fetched_fits, children_may_be_asked, AnyPage, NeedsNumber, looked_live, wanted_by, Brings, MachineKeeps, AtParent, IsMerging, NamesKnown, PairHeld, merging_at, AsksPoint, AsksPoster, AsksSearcher, WalksToSearch, number_of_row, other_page, AsksMerger, second_page, Machine, live_here, next_of, with_disk, IsAtHand, RunningCore, IsWorking, HasPages, with_memory}
+use Rattle.std.proofs.Common.{MatchOption}
 use Rattle.hb_layout.specs.Limits.{IsLayout}
-use Rattle.hb_ops.specs.Files.{if_live}
-use Rattle.hb_set.specs.declared.commands.Command.{Command}
-use Rattle.hb_set.specs.declared.commands.Command.TheVariants.{Insert, Delete, Lookup, Search}
-use Rattle.hb_set.specs.declared.scripts.Line.{Line}
-use Rattle.hb_activity.specs.declared.jobs.Job.{Job}
-use Rattle.hb_activity.specs.declared.wanting.Wanted.{Wanted}
-use Rattle.hb_activity.specs.declared.activities.Activity.{Activity}
 use Rattle.hb_activity.specs.declared.activities.Activity.TheVariants as at
-use Rattle.hb_activity.specs.Classes.{Posters, Sessions, class_of}
-use Rattle.hb_activity.specs.Deciding.{FitsFree}
-use Rattle.hb_activity.specs.Passing.{LeadsBelow}
-use Rattle.hb_activity.specs.Walks.{goal_of, job_mode, session_mode, walk_held, walk_point}
-use Rattle.hb_activity.specs.Wanting.{child_of, in_mode, named_child, onward_at, walk_next, wanted_of, wanted_page}
+use Rattle.hb_activity.specs.Wanting.{onward_at}
 use Rattle.hb_consol.specs.Asks.{MayAskToMerge}
 use Rattle.hb_point.specs.Asks.{MayAsk}
-use Rattle.hb_point.specs.SessionRows.{WantsBoxes}
-use Rattle.hb_poster.specs.Asks.{MakesPage, MayBeAsked}
 use Rattle.hb_search.specs.Searching.{MaySearch}
-use Rattle.hb_store.specs.States.{StoreState}
-use Rattle.hb_lemmas.proofs.Options.{at_value, has_value, some_value}
-use Rattle.hb_core.proofs.Machines.BoxesAhead.{corner_ahead, has_last}
-use Rattle.hb_core.proofs.Facts.StillThere.{fetched_fits}
 use Rattle.hb_core.proofs.Running.Brought.{brings_wider}
-use Rattle.hb_core.proofs.Walks.AskedToMerge.{merger_walks_may_be_asked, pairs_may_be_asked}
-use Rattle.hb_core.proofs.Walks.MayBeAsked.{children_may_be_asked, points_may_be_asked, poster_walks_may_be_asked, puts_may_be_asked, searches_may_be_asked, splits_may_be_asked}
-use Rattle.hb_core.specs.AllowedLaws.{AnyPage}
-use Rattle.hb_core.specs.Acting.{NeedsNumber}
-use Rattle.hb_core.specs.Asking.{looked_live, wanted_by}
-use Rattle.hb_core.specs.Fetching.{Brings}
-use Rattle.hb_core.specs.KeptMachine.{MachineKeeps}
-use Rattle.hb_core.specs.KeptMerges.{AtParent, IsMerging, NamesKnown, PairHeld, knows, merging_at}
-use Rattle.hb_core.specs.AskingDeciders.{AsksPoint, AsksPoster, AsksSearcher, WalksToSearch}
-use Rattle.hb_core.specs.Looking.{number_of_row, other_page}
-use Rattle.hb_core.specs.LookingToMerge.{AsksMerger, second_page}
-use Rattle.hb_core.specs.Machines.{Machine, live_here, next_of, with_disk}
-use Rattle.hb_core.specs.Rows.{IsAtHand}
-use Rattle.hb_core.specs.Showing.{RunningCore}
-use Rattle.hb_core.specs.Working.{HasPages, IsWorking, with_memory}
+use Rattle.hb_steps.proofs.Walks.AskedToMerge.{merger_walks_may_be_asked, pairs_may_be_asked}
+use Rattle.hb_steps.proofs.Walks.MayBeAsked.{points_may_be_asked, poster_walks_may_be_asked, puts_may_be_asked, searches_may_be_asked, splits_may_be_asked}
+use Rattle.hb_steps.specs.KeptMerges.{knows}
 
 -- pages that came, of whatever numbers
 pub any_brings : (m : Machine) (may : ℕ → Type 0) (fetched : StoreState) → Brings m may fetched → Brings m AnyPage fetched
@@ -81,7 +41,7 @@ module _ (m : Machine) (actor : ℕ) (may : IsActor actor) (keeps : MachineKeeps
       → IsSome (in_mode mode (walk_next goal held m.store.meta (option_and_then (live_here m.store) held)))
   walk_wants mode goal p None is point walks = subst (λ (g : Option (List ℕ)). IsSome (in_mode mode (walk_next g None m.store.meta None))) (sym is) refl
   walk_wants mode goal p (Some held) is point walks =
-      let there = keeps.latches_fit.walking actor held may walks in
+      let there = keeps.latches_fit.walking actor held walks in
       subst (λ (g : Option (List ℕ)). IsSome (in_mode mode (walk_next g (Some held) m.store.meta (live_here m.store held)))) (sym is)
       (held_leads mode p held (live_here m.store held) refl (has_value (live_here m.store held) there.0 (ap if_live there.1)) walks (point ∙ is))
 

@@ -1,31 +1,16 @@
 -- A core that has taken no step shows a machine that has taken none.
-use Rattle.std.proofs.Common.{◌≡◌, inl, inr, ℕ, ◌==◌, cond, Result, Ok, Err, IfOk, ◌-◌, ◌<◌, ◌≤◌, List, [], ◌∷◌, map, get_or, replicate, slice_get, Some, None, IsSome, refl, sym, ap, subst, ◌∙◌, arith}
+use Rattle.hb_core.proofs.Running.Names.{◌≡◌, inl, inr, ℕ, ◌==◌, cond, Result, Ok, Err, IfOk, ◌-◌, ◌<◌, ◌≤◌, List, [], ◌∷◌, get_or, replicate, Some, None, IsSome, refl, sym, ap, subst, ◌∙◌, arith, cases_lt, false≢true, get_or_from_slice_get, slice_get-get_or, slice_get_within, none-some, DiskModel, IsActor, Answered, Line, Entry, Class, Sessions, Posters, Consolidators, Flushers, idle_of, is_answered, Use, StoreState, class_for, HasAnswer, Machine, HasTurn, ShowsFiles, ShowsMachine, number_in_hand, at_other, RunningCore}
+use Rattle.std.proofs.Common.{map, slice_get}
+use mathlib.Core.Path.{fun_ext}
+use Rattle.hb_steps.proofs.Machines.FramesKept.{none_latched}
 use Rattle.std.specs.FinMap as finite
-use Rattle.std.proofs.lemmas.Bool.{cases_lt, false≢true}
 use Rattle.std.proofs.lemmas.List.{get_or-replicate}
-use Rattle.std.proofs.lemmas.Option.{get_or_from_slice_get, slice_get-get_or, slice_get_within, none-some}
-use Rattle.hb_disk.specs.Model.{DiskModel}
-use Rattle.hb_latch.specs.Tables.{LatchTable, latch_cmp, mode_at}
-use Rattle.hb_space.specs.Actors.{IsActor}
-use Rattle.hb_latch.proofs.Facts.KeyOrder.{exact_keys, latch_order}
-use Rattle.hb_set.specs.declared.scripts.Answered.{Answered}
-use Rattle.hb_set.specs.declared.scripts.Line.{Line}
-use Rattle.hb_set.specs.Order.{Entry}
+use Rattle.hb_latch.specs.Tables.{latch_cmp}
 use Rattle.hb_activity.specs.declared.activities.Activity.TheVariants.{SessionIdle, PosterIdle, ConsolidatorIdle, Flusher}
-use Rattle.hb_activity.specs.Classes.{Class, Sessions, Posters, Consolidators, Flushers, idle_of}
-use Rattle.hb_point.specs.SessionRows.{is_answered}
-use Rattle.hb_pool.specs.Frames.{Use}
-use Rattle.hb_store.specs.States.{StoreState}
-use Rattle.hb_core.specs.KeptFits.{class_for}
-use Rattle.hb_core.specs.KeptSequence.{HasAnswer}
-use Rattle.hb_core.specs.Machines.{Machine}
-use Rattle.hb_core.specs.Showing.{HasTurn, ShowsFiles, ShowsMachine, number_in_hand}
-use Rattle.hb_core.specs.SteppingLaws.{IsBegun}
+use Rattle.hb_steps.specs.SteppingLaws.{IsBegun}
 use Rattle.hb_core.specs.Taking.{all_idle, begun_core}
-use Rattle.hb_lemmas.proofs.Booleans.{at_other}
 use Rattle.hb_lemmas.proofs.Lists.{get-longer}
-use Rattle.hb_core.specs.Showing.{RunningCore}
-use Rattle.hb_core.proofs.Machines.Beginnings.{beginning_keeps}
+use Rattle.hb_steps.proofs.Machines.Beginnings.{beginning_keeps}
 
 empty_hand : (kind : Class) → number_in_hand (idle_of kind) ≡ None
 empty_hand Sessions = refl
@@ -68,9 +53,6 @@ stands_at_rest actor may = elim (cases_lt actor 17) [
     at_number : (n : ℕ) → n ≡ actor → IsAtRest n → IsAtRest actor
     at_number n same rest = subst IsAtRest same rest
 
-unlatched_is : (table : LatchTable) → ((actor page : ℕ) → mode_at table actor page ≡ None) → table ≡ finite.empty
-unlatched_is table none = finite.same_map latch_order exact_keys table finite.empty (λ q. none q.0 q.1 ∙ sym (finite.get-empty latch_cmp q))
-
 no_answer : (m : Machine) (line : Line) → m.answered ≡ [] → HasAnswer m line → ⊥
 no_answer m line none answer = false≢true (sym (ap (λ (all : List Answered). is_answered line.number all) none) ∙ answer)
 
@@ -94,7 +76,7 @@ begun_shows d m lines steps store uses begun lines_so store_so uses_so tells sil
   all_actors = refl;
   activities = λ actor may. stands_at_rest actor may ∙ ap Some (sym (begun.idle actor));
   nobody_else = (beginning_keeps m begun).nobody_else;
-  latches = unlatched_is m.latches begun.unlatched;
+  latches = fun_ext (λ actor. fun_ext (λ page. none_latched m begun actor page ∙ sym (finite.get-empty latch_cmp (actor, page))));
   jobs = begun.no_job;
   order = ap (λ (es : List Entry). map (λ (e : Entry). e.line.number) es) begun.no_order;
   stop = begun.runs;

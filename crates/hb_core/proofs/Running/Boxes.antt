@@ -1,28 +1,12 @@
 -- The box that is asked for has as many attributes as the file.
-use Rattle.std.proofs.Common.{◌≡◌, ℕ, List, length, replicate, Option, Some, None, IfSome, refl, sym, ◌∙◌, subst}
-use Rattle.std.specs.Option.{option_and_then}
+use Rattle.hb_core.proofs.Running.Names.{◌≡◌, ℕ, List, length, replicate, Option, Some, None, IfSome, refl, sym, ◌∙◌, subst, option_and_then, Leaf, Records, Child, Sibling, LivePage, Page, Live, Free, Placed, leaf_at, if_live, IsLiveAnd, Area, Holds, Activity, goal_of, HasLeafAt, IsGoodPage, IsMemory, StoreState, in_memory, AskedBox, asked_box, box_at, box_by_leaf, box_of_child, box_of_place, box_of_sibling, MayLook, live_here, IsWorking}
 use Rattle.std.proofs.lemmas.List.{length-replicate}
 use Rattle.hb_frag.proofs.Facts.Tiles.{first_tells}
-use Rattle.hb_frag.specs.declared.leaves.Leaf.{Leaf}
-use Rattle.hb_frag.specs.declared.leaves.Leaf.TheVariants.{Records, Child, Sibling}
-use Rattle.hb_frag.specs.declared.pages.LivePage.{LivePage}
-use Rattle.hb_frag.specs.declared.pages.Page.{Page}
-use Rattle.hb_frag.specs.declared.pages.Page.TheVariants.{Live, Free}
-use Rattle.hb_frag.specs.Leaves.{Placed, WellCut, leaf_at}
-use Rattle.hb_ops.specs.Files.{if_live}
-use Rattle.hb_view.specs.Views.{IsLive, IsLiveAnd}
-use Rattle.hb_space.specs.Boxes.{Area, Holds}
-use Rattle.hb_activity.specs.declared.activities.Activity.{Activity}
+use Rattle.hb_frag.specs.Leaves.{WellCut}
+use Rattle.hb_view.specs.Views.{IsLive}
 use Rattle.hb_activity.specs.declared.activities.Activity.TheVariants as at
-use Rattle.hb_activity.specs.Walks.{goal_of}
-use Rattle.hb_activity.specs.Wanting.{HasLeafAt}
-use Rattle.hb_store.specs.States.{IsGoodPage, IsMemory, StoreState, in_memory}
 use Rattle.hb_core.proofs.Running.LeafBoxes.{HasMany, child_many, place_many, sibling_many}
-use Rattle.hb_core.specs.Asking.{AskedBox, asked_box, box_at, box_by_leaf, box_of_child, box_of_place, box_of_sibling}
-use Rattle.hb_core.specs.Looking.{MayLook}
-use Rattle.hb_core.specs.Machines.{live_here}
-use Rattle.hb_core.specs.Working.{IsWorking}
-use Rattle.hb_core.proofs.Files.FitOps.{live_good}
+use Rattle.hb_steps.proofs.Files.FitOps.{live_good}
 
 module _ (st : StoreState) (memory : IsMemory st) where
   by_leaf : (leaf : Leaf) (area : Area) (p : List ℕ) → length p ≡ st.meta.k → Holds area p → HasMany st.meta.k (box_by_leaf (record { leaf = leaf; area = area }))

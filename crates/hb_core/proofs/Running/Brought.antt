@@ -1,34 +1,9 @@
 -- A page that is fetched comes into the memory of each machine that a core shows.
-use Rattle.std.proofs.Common.{◌≡◌, ◌⊎◌, inl, inr, ℕ, ◌≤◌, ◌==◌, List, Option, Some, None, IfSome, IsSome, refl, sym, ap, ◌∙◌, subst}
+use Rattle.hb_core.proofs.Running.Names.{◌≡◌, ◌⊎◌, inl, inr, ℕ, ◌≤◌, ◌==◌, List, Option, Some, None, IfSome, IsSome, refl, sym, ap, ◌∙◌, subst, nat_cmp, cases_Bool, eqb-true, eqb-false, DiskModel, Page, Meta, at_value, has_value, not_none, some_value, FileState, page_of, Use, Fetched, KeepsAllButPages, LooksUp, StoreKeeps, IsGoodPage, IsMemory, StoreState, in_memory, Brings, MustStay, LatchesFit, Files, Machine, current_file, modes, with_disk, with_uses, same_held, HeldModes, with_order_of_use, with_store, RunningCore, ShowsFiles, ShowsMachine}
 use Rattle.std.specs.FinSet as set
-use Rattle.std.specs.Ordering.{nat_cmp}
-use Rattle.std.proofs.lemmas.Bool.{cases_Bool, eqb-true, eqb-false}
-use Rattle.hb_disk.specs.Model.{DiskModel}
-use Rattle.hb_frag.specs.declared.pages.Page.{Page}
-use Rattle.hb_layout.specs.declared.meta.Meta.{Meta}
-use Rattle.hb_lemmas.proofs.Options.{at_value, has_value, not_none, of_value, some_value}
-use Rattle.hb_ops.specs.Files.{FileState, page_of}
-use Rattle.hb_pool.specs.Frames.{Use}
-use Rattle.hb_store.specs.Calls.{Fetched, KeepsAllButPages, NoneComes}
-use Rattle.hb_store.specs.Fetching.{LooksUp}
-use Rattle.hb_store.specs.Keeps.{StoreKeeps}
-use Rattle.hb_store.specs.States.{IsGoodPage, IsMemory, StoreState, in_memory}
-use Rattle.hb_core.specs.Fetching.{Brings, MustStay}
-use Rattle.hb_core.specs.Machines.{Files, Machine, current_file, with_disk, with_uses}
-use Rattle.hb_core.specs.Moving.{with_order_of_use, with_store}
-use Rattle.hb_core.specs.Showing.{RunningCore, ShowsFiles, ShowsMachine}
+use Rattle.hb_lemmas.proofs.Options.{of_value}
+use Rattle.hb_store.specs.Calls.{NoneComes}
 use Rattle.hb_core.proofs.Running.ForcedShows.{shown_with}
-
--- nothing came
-pub brings_none : (m : Machine) (may : ℕ → Type 0) (st : StoreState) → m.store ≡ st → Brings m may st
-brings_none m may st same = subst (Brings m may) same (record {
-  rest = refl;
-  stays = λ id must there. refl;
-  others = λ id there. inl refl;
-  only = λ id none there. let page = some_value (in_memory m.store id) there in absurd (not_none (in_memory m.store id) page.0 page.1 none);
-  good = λ id page there. inl there;
-  told = λ id page none there. absurd (not_none (in_memory m.store id) page there none);
-})
 
 module _ (m : Machine) (d e : DiskModel) (c : RunningCore) (failed : Type 0) (st : StoreState) (shows : ShowsMachine d c m) (looks : LooksUp failed d e c.store st) where
   keeps_files : (durable : FileState) (later : List FileState) → StoreKeeps d m.store durable later → StoreKeeps e st durable later
@@ -43,8 +18,8 @@ module _ (m : Machine) (d e : DiskModel) (c : RunningCore) (failed : Type 0) (st
   }
 
   -- the core shows the machine with the pages that it has now, in their order of use
-  pub shows_store : (uses : List Use) → ShowsMachine e (with_order_of_use uses (with_store st c)) (with_uses uses (with_disk st m.files m.clock m))
-  shows_store uses = shown_with d e c st uses m shows st uses m.files m.clock refl refl
+  pub shows_store : modes (with_disk st m.files m.clock m) ≡ modes m → (uses : List Use) → ShowsMachine e (with_order_of_use uses (with_store st c)) (with_uses uses (with_disk st m.files m.clock m))
+  shows_store held uses = shown_with d e c st uses m shows st uses m.files m.clock held refl refl
       (λ told. files_as (files_then (shows.tells (subst (λ (o : Option (List ℕ)). IsSome o) looks.only.stays.told told))))
       (λ none. shows.silent (sym looks.only.stays.told ∙ none))
     where
@@ -102,7 +77,7 @@ module _ (m : Machine) (d e : DiskModel) (c : RunningCore) (failed : Type 0) (st
     }
 
 -- Two brings in a row make one. Over a disk that tells a page that left and came again is the file's, as it was before.
-module _ (m : Machine) (may might : ℕ → Type 0) (st then : StoreState) (uses : List Use) (first : Brings m may st) (second : Brings (with_uses uses (with_disk st m.files m.clock m)) might then)
+module _ (m : Machine) (may might : ℕ → Type 0) (fit : LatchesFit m) (st then : StoreState) (uses : List Use) (first : Brings m may st) (second : Brings (with_uses uses (with_disk st m.files m.clock m)) might then)
     (shown : (files : Files) → m.files ≡ Some files → (id : ℕ) (page : Page) → in_memory m.store id ≡ Some page → page_of (current_file files) id ≡ Some page) where
   abbrev middle : Machine
   middle = with_uses uses (with_disk st m.files m.clock m)
@@ -111,7 +86,7 @@ module _ (m : Machine) (may might : ℕ → Type 0) (st then : StoreState) (uses
   rest_joined = second.rest ∙ ap (λ (s : StoreState). record s { pages = then.pages }) first.rest
 
   still_must : (id : ℕ) → MustStay m id → MustStay middle id
-  still_must id (inl held) = inl held
+  still_must id (inl (actor, mode, held)) = inl (actor, mode, ap (λ (t : HeldModes). t actor id) (same_held m may st first fit) ∙ held)
   still_must id (inr dirty) = inr (ap (λ (s : set.FinSet nat_cmp). set.contains s id) (ap (λ (s : StoreState). s.dirty) first.rest) ∙ dirty)
 
   must_not : (id : ℕ) → (MustStay middle id → ⊥) → MustStay m id → ⊥

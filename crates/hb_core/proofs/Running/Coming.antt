@@ -1,66 +1,21 @@
 -- The wanted page comes and is the one that was asked for, or the step halts.
-use Rattle.std.proofs.Common.{◌≡◌, ◌≢◌, ◌⊎◌, inl, inr, ℕ, false, List, [], ◌∷◌, Option, Some, None, IfSome, IsTrue, refl, sym, ap, ◌∙◌, subst, arith, ◌<◌}
-use Rattle.std.specs.Option.{IsSomeAnd, option_and_then, option_map, MatchOption}
-use Rattle.std.proofs.lemmas.List.Elements.{All-head}
-use Rattle.std.proofs.lemmas.Option.{same_Some}
-use Rattle.hb_disk.specs.Model.{DiskModel}
-use Rattle.hb_frag.specs.declared.leaves.Leaf.{Leaf}
-use Rattle.hb_frag.specs.declared.leaves.Leaf.TheVariants.{Records, Child, Sibling}
-use Rattle.hb_frag.specs.declared.pages.LivePage.{LivePage}
-use Rattle.hb_frag.specs.declared.pages.Page.{Page}
-use Rattle.hb_frag.specs.declared.pages.Page.TheVariants.{Live}
-use Rattle.hb_frag.specs.Leaves.{Placed, leaf_at}
-use Rattle.hb_latch.specs.declared.modes.Mode.{Mode}
-use Rattle.hb_latch.specs.declared.modes.Mode.TheVariants.{Shared, Exclusive}
-use Rattle.hb_space.specs.Actors.{IsActor}
-use Rattle.hb_layout.specs.declared.meta.Meta.{Meta}
-use Rattle.hb_lemmas.proofs.Options.{at_value, has_value, if_value, not_none}
-use Rattle.hb_ops.proofs.Facts.PageNumberLaws.{live_so}
-use Rattle.hb_ops.specs.Files.{FileState, last_of}
-use Rattle.hb_ops.specs.Sound.{IsSound}
-use Rattle.hb_space.specs.Boxes.{Area}
-use Rattle.hb_activity.specs.declared.wanting.Wanted.{Wanted}
-use Rattle.hb_activity.specs.declared.activities.Activity.{Activity}
+use Rattle.hb_core.proofs.Running.Names.{◌≡◌, ◌≢◌, ◌⊎◌, inl, inr, ℕ, false, List, [], ◌∷◌, Option, Some, None, IfSome, IsTrue, refl, sym, ap, ◌∙◌, subst, arith, ◌<◌, option_and_then, option_map, All-head, same_Some, DiskModel, Leaf, Records, Child, Sibling, LivePage, Page, Live, Placed, leaf_at, Mode, Shared, Exclusive, IsActor, Meta, at_value, has_value, if_value, not_none, live_so, FileState, last_of, IsSound, Area, Wanted, Activity, goal_of, job_mode, session_mode, child_of, in_mode, named_child, walk_next, wanted_page, names_child, Fetched, StaysHere, use_fetched, Breaks, FetchesNot, IsCrowdedOut, IsNoPage, LooksUp, StoreKeeps, IsMemory, StoreState, in_memory, FetchStop, Why, Rule, Level, Extent, Halt, Stops, files_hold, more_number, brings_none, LacksNeeded, MayNeed, AskedBox, around_box, asked_box, box_at, box_by_leaf, box_of_child, box_of_place, box_of_sibling, this_box, wanted_by, whole_box, Brings, IsWantedPage, HasSoundFile, NamesKnown, merging_at, MayLook, wanted_in, StandsAs, with_order_of_use, with_store, page_wanted, unpin_each, use_wanted, Use, pinned, unpinned, frame_of, in_place, places, put_last, IsTied, Files, Machine, current_file, live_here, modes, with_disk, with_uses, same_held, IsAtHand, RunningCore, ShowsMachine, IsHaltOf, IsWorking, MayWork, HasCome, Halts, IsHalt, MayStep}
+use Rattle.std.specs.Option.{IsSomeAnd, MatchOption}
 use Rattle.hb_activity.specs.declared.activities.Activity.TheVariants as at
-use Rattle.hb_activity.specs.Walks.{goal_of, job_mode, session_mode}
-use Rattle.hb_activity.specs.Wanting.{child_of, in_mode, named_child, named_page, walk_next, wanted_page}
-use Rattle.hb_consol.specs.ConsolidatorRows.{names_child}
-use Rattle.hb_store.specs.Calls.{Fetched, StaysHere, use_fetched}
-use Rattle.hb_store.specs.Fetching.{Breaks, FetchesNot, IsCrowdedOut, IsNoPage, LooksUp}
-use Rattle.hb_store.specs.Keeps.{StoreKeeps}
-use Rattle.hb_store.specs.States.{IsMemory, StoreState, in_memory}
-use Rattle.hb_store.specs.declared.stops.FetchStop.{FetchStop}
+use Rattle.hb_activity.specs.Wanting.{named_page}
 use Rattle.hb_store.specs.declared.stops.FetchStop.TheVariants as fetches
 use Rattle.hb_store.specs.declared.stops.StopWhy.TheVariants as stops
-use Rattle.hb_store.specs.declared.stops.Why.{Why}
-use Rattle.hb_store.specs.declared.stops.Why.TheVariants.{Rule, Level, Extent}
-use Rattle.hb_core.specs.declared.halts.Halt.{Halt}
-use Rattle.hb_core.specs.declared.halts.Halt.TheVariants.{Stops}
-use Rattle.hb_core.proofs.Files.SoundFiles.{current_sound, files_hold}
-use Rattle.hb_core.proofs.Machines.PinsFollow.{more_number}
-use Rattle.hb_core.proofs.Running.Brought.{brings_none, brings_wider, fetch_brings, shows_store}
+use Rattle.hb_steps.proofs.Files.SoundFiles.{current_sound}
+use Rattle.hb_core.proofs.Running.Brought.{brings_wider, fetch_brings, shows_store}
 use Rattle.hb_core.proofs.Running.Frames.{may_pin, shown_stays, shown_tied}
 use Rattle.hb_core.proofs.Running.Pins.{one_itself, pinned_frame, tied_unpinned}
 use Rattle.hb_core.proofs.Running.LeafBoxes.{Asks, child_asks_there, place_asks_there, sibling_asks_there}
 use Rattle.hb_core.proofs.Running.Looks.{may_look, names_stay, wants_same}
 use Rattle.hb_core.proofs.Running.StandsElsewhere.{shows_but, stands_as}
-use Rattle.hb_core.specs.Acting.{IsBadWanted, LacksNeeded, MayNeed}
-use Rattle.hb_core.specs.AskedBoxes.{IsNotAsked}
-use Rattle.hb_core.specs.Asking.{AskedBox, around_box, asked_box, box_at, box_by_leaf, box_of_child, box_of_place, box_of_sibling, this_box, wanted_by, whole_box}
-use Rattle.hb_core.specs.Fetching.{Brings, IsDamaged, IsWantedPage}
-use Rattle.hb_core.specs.Keeps.{HasSoundFile}
-use Rattle.hb_core.specs.KeptMerges.{NamesKnown, merging_at}
-use Rattle.hb_core.specs.Looking.{FailsTest, IsOfOtherLevel, MayLook, PassesTest, wanted_in}
-use Rattle.hb_core.specs.Moving.{StandsAs, with_order_of_use, with_store}
-use Rattle.hb_core.specs.Using.{page_wanted, unpin_each, use_wanted}
-use Rattle.hb_pool.specs.Frames.{Use, pinned, unpinned}
-use Rattle.hb_pool.specs.Pools.{frame_of, in_place, places, put_last}
-use Rattle.hb_store.specs.Held.{IsTied}
-use Rattle.hb_core.specs.Machines.{Files, Machine, current_file, live_here, with_disk, with_uses}
-use Rattle.hb_core.specs.Rows.{IsAtHand}
-use Rattle.hb_core.specs.Showing.{RunningCore, ShowsMachine}
-use Rattle.hb_core.specs.Stopping.{IsHaltOf}
-use Rattle.hb_core.specs.Working.{HasCome, Halts, IsHalt, IsWorking, MayStep, MayWork}
+use Rattle.hb_steps.specs.Acting.{IsBadWanted}
+use Rattle.hb_steps.specs.AskedBoxes.{IsNotAsked}
+use Rattle.hb_steps.specs.Fetching.{IsDamaged}
+use Rattle.hb_steps.specs.Looking.{FailsTest, IsOfOtherLevel, PassesTest}
 
 -- what a call that reads did, it did still after one that changes no page and no disk
 pub looks_kept : {failed : Type 0} {d e f : DiskModel} {old middle st : StoreState} → f ≡ e → st ≡ middle → LooksUp failed d e old middle → LooksUp failed d f old st
@@ -233,7 +188,7 @@ module _ (m : Machine) (d : DiskModel) (c : RunningCore) (actor : ℕ) (latches 
         let not_there : FetchesNot m.store.meta d wanted.page stop = subst (λ (x : StoreState). FetchesNot x.meta d wanted.page stop) (sym step.shows.store) why in
         record {
           brings = brings_none m (MayNeed m actor st) st same;
-          shows = shows_but e (with_order_of_use uses (with_store st c)) (with_uses uses (with_disk st m.files m.clock m)) actor latches (shows_store m d e c failed st step.shows looks uses);
+          shows = shows_but e (with_order_of_use uses (with_store st c)) (with_uses uses (with_disk st m.files m.clock m)) actor latches (shows_store m d e c failed st step.shows looks (ap (λ (x : StoreState). modes (with_disk x m.files m.clock m)) (sym same)) uses);
           cause = subst (λ (x : StoreState). IsHalt m actor x halt) same (refused_by none stop halt is not_there (sound_or_untold stop sound));
           used_is = inl (kept.1 ∙ sym step.shows.uses);
           tied = subst (λ (l : List Use). IsTied st l) (sym kept.1) (subst (λ (x : StoreState). IsTied x c.uses) (sym kept.0) (shown_tied d c m step));
@@ -269,7 +224,7 @@ module _ (m : Machine) (d : DiskModel) (c : RunningCore) (actor : ℕ) (latches 
         passed passes = record {
           may = work;
           brings = brings_wider m (λ id. id ≡ wanted.page) (IsWantedPage (wanted_by m actor)) st (λ id same. subst (λ (o : Option Wanted). IsWantedPage o id) (sym wants) same) brings_it;
-          shows = shows_store m d e c failed st step.shows looks uses;
+          shows = shows_store m d e c failed st step.shows looks (same_held m _ st brings_it work.goes_on.kept.latches_fit) uses;
           at_hand = subst (λ (o : Option Wanted). IfSome o (λ wanted. (page : LivePage) × IsAtHand (with_uses uses (with_disk st m.files m.clock m)) (m.activity actor) wanted page)) (sym wants)
               (passes.page, record { live = passes.live; level = passes.level; box = passes.box });
           uses = used_so ∙ ap (λ (o : Option Wanted). use_wanted o m.uses) (sym wants);
@@ -311,7 +266,7 @@ module _ (m : Machine) (d : DiskModel) (c : RunningCore) (actor : ℕ) (latches 
           → (why : Why) → FailsTest st activity wanted why → Halts m actor (Stops (stops.Damaged wanted.page why)) e (with_order_of_use left (with_store st c))
       failed_test uses left used tied let_go why (page, there, other) = record {
         brings = brings_wider m (λ id. id ≡ wanted.page) (MayNeed m actor st) st (needs_it st) brings_it;
-        shows = shows_but e (with_order_of_use left (with_store st c)) (with_uses left (with_disk st m.files m.clock m)) actor latches (shows_store m d e c failed st step.shows looks left);
+        shows = shows_but e (with_order_of_use left (with_store st c)) (with_uses left (with_disk st m.files m.clock m)) actor latches (shows_store m d e c failed st step.shows looks (same_held m _ st brings_it work.goes_on.kept.latches_fit) left);
         used_is = inr (inl (let_go ∙ ap (in_place wanted.page unpinned) (used_so uses used tied) ∙ ap (λ (o : Option Wanted). unpin_each (page_wanted o) (use_wanted o m.uses)) (sym wants)));
         tied = subst (λ (l : List Use). IsTied st l) (sym let_go) (left_tied uses used tied);
         cause = inl (subst (λ (o : Option Wanted). IsBadWanted m.files st o (asked_box activity st) wanted.page why) (sym wants) (is_bad why page there other));

@@ -1,53 +1,18 @@
 -- The operation of a row may be committed: over each disk with which the core shows the machine.
-use Rattle.std.proofs.Common.{◌≡◌, ℕ, ◌≤◌, ◌-◌, ◌==◌, ◌&&◌, Bool, false, List, length, Option, Some, IsTrue, IfSome, refl, sym, ap, ◌∙◌, subst}
+use Rattle.hb_core.proofs.Running.Names.{◌≡◌, ℕ, ◌≤◌, ◌-◌, ◌==◌, ◌&&◌, Bool, false, List, length, Option, Some, IsTrue, IfSome, refl, sym, ap, ◌∙◌, subst, option_map_or, eq-eqb, length-map, DiskModel, Records, LivePage, leaf_at, IsActor, Op, FileState, last_of, Entry, Line, Area, Record, Wanted, Activity, may_commit, wanted_of, Deed, at_value, HasFrameFor, HasPlaces, IsReady, StoreKeeps, StoreState, GROUP, PENDING, Waiting, pending_bytes, room_of, files_hold, each_op, each_row, AnyPage, looked_live, wanted_by, Brings, HasSoundFile, MachineKeeps, RowsMayBeDone, Machine, current_file, sight, with_disk, MayCommit, IsAtHand, Row, RunningCore, ShowsFiles, ShowsMachine, may_change_file, MayWork, with_memory}
 use Rattle.std.specs.List.{All}
-use Rattle.std.specs.Option.{option_map_or}
-use Rattle.std.proofs.lemmas.Bool.{eq-eqb}
-use Rattle.std.proofs.lemmas.List.{length-map}
-use Rattle.hb_disk.specs.Model.{DiskModel}
-use Rattle.hb_frag.specs.declared.leaves.Leaf.TheVariants.{Records}
-use Rattle.hb_frag.specs.declared.pages.LivePage.{LivePage}
-use Rattle.hb_frag.specs.Leaves.{leaf_at}
-use Rattle.hb_space.specs.Actors.{IsActor}
-use Rattle.hb_ops.specs.declared.operations.Op.{Op}
-use Rattle.hb_ops.specs.Files.{FileState, last_of}
 use Rattle.hb_ops.specs.Operations.{IsLicensed}
 use Rattle.hb_ops.specs.Sound.{FitsFile}
-use Rattle.hb_set.specs.Order.{Entry}
-use Rattle.hb_set.specs.declared.scripts.Line.{Line}
-use Rattle.hb_space.specs.Boxes.{Area}
-use Rattle.hb_space.specs.declared.records.Record.{Record}
-use Rattle.hb_activity.specs.declared.wanting.Wanted.{Wanted}
-use Rattle.hb_activity.specs.declared.activities.Activity.{Activity}
 use Rattle.hb_activity.specs.declared.activities.Activity.TheVariants as at
-use Rattle.hb_activity.specs.Wanting.{may_commit, wanted_of}
-use Rattle.hb_activity.specs.Deeds.{Deed}
 use Rattle.hb_activity.specs.Walks.{may_change}
 use Rattle.hb_activity.proofs.Facts.AllowedDeeds.{kind_at}
-use Rattle.hb_lemmas.proofs.Options.{at_value}
-use Rattle.hb_store.specs.Calls.{HasFrameFor, HasPlaces, IsReady}
-use Rattle.hb_store.specs.Keeps.{StoreKeeps}
-use Rattle.hb_store.specs.States.{StoreState}
-use Rattle.hb_space.specs.declared.form.TheConstants.{GROUP, PENDING}
-use Rattle.hb_wal.specs.Log.{IsMarkedTo, LogState, Waiting, pending_bytes, room_of}
-use Rattle.hb_core.proofs.Files.FileOps.{licensed_in_file}
-use Rattle.hb_core.proofs.Files.SoundFiles.{FilesHold, brought_shown, files_hold, shows_file}
-use Rattle.hb_core.proofs.Memory.KeptPages.{brought, keeps_pages}
-use Rattle.hb_core.proofs.Facts.EachRow.{each_op, each_row}
-use Rattle.hb_core.proofs.Walks.MayBeAsked.{pages_at_hand_fit}
-use Rattle.hb_core.specs.AllowedLaws.{AnyPage}
-use Rattle.hb_core.specs.Asking.{looked_live, wanted_by}
-use Rattle.hb_core.specs.Fetching.{Brings}
-use Rattle.hb_core.specs.Keeps.{HasSoundFile}
-use Rattle.hb_core.specs.KeptMachine.{MachineKeeps}
-use Rattle.hb_core.specs.MachineLaws.{MayBeDoneHere, RowsMayBeDone}
-use Rattle.hb_core.specs.Machines.{Machine, current_file, sight, with_disk}
-use Rattle.hb_core.specs.Moving.{MayCommit}
-use Rattle.hb_core.specs.Rows.{IsAtHand, Row}
-use Rattle.hb_core.specs.Showing.{RunningCore, ShowsFiles, ShowsMachine}
-use Rattle.hb_core.specs.Steps.{may_change_file}
+use Rattle.hb_wal.specs.Log.{IsMarkedTo, LogState}
+use Rattle.hb_steps.proofs.Files.FileOps.{licensed_in_file}
+use Rattle.hb_steps.proofs.Files.SoundFiles.{FilesHold, brought_shown, shows_file}
+use Rattle.hb_steps.proofs.Memory.KeptPages.{brought, keeps_pages}
+use Rattle.hb_steps.proofs.Walks.MayBeAsked.{pages_at_hand_fit}
+use Rattle.hb_steps.specs.MachineLaws.{MayBeDoneHere}
 use Rattle.hb_core.proofs.Running.PlacesFor.{is_ready}
-use Rattle.hb_core.specs.Working.{MayWork, with_memory}
 
 module _ (m : Machine) (actor : ℕ) (fetched : StoreState) (keeps : MachineKeeps m) (brings : Brings m AnyPage fetched) where
   -- ---- a row that does an operation is of a step that may change the file

@@ -1,22 +1,10 @@
 -- What the private calls of a step make of the counts of a core.
-use Rattle.std.proofs.Common.{◌≡◌, ◌⊎◌, inl, inr, ℕ, List, [], length, Option, Some, None, IfErr, IfOk, Result, Ok, Err, refl, sym, ap, ◌∙◌, subst}
-use Rattle.hb_activity.specs.declared.activities.Activity.{Activity}
-use Rattle.hb_activity.specs.Deeds.{Deed}
-use Rattle.hb_ops.specs.declared.operations.Op.{Op}
-use Rattle.hb_store.specs.Calls.{KeepsAllButPages}
-use Rattle.hb_store.specs.Fetching.{MayFetch}
-use Rattle.hb_store.specs.Forced.{forced_state, stopped_state}
-use Rattle.hb_store.specs.States.{StoreState}
-use Rattle.hb_core.specs.declared.outcomes.Outcome.{Outcome}
-use Rattle.hb_core.specs.Counting.{CountsNoOp, CountsOp, CountsPart, CountsStep, DidOp, DoesNoOp, OnlyBrings}
-use Rattle.hb_core.specs.Counts.{counted, counted_by}
+use Rattle.hb_core.proofs.Running.Names.{◌≡◌, ◌⊎◌, inl, inr, ℕ, List, [], length, Option, Some, None, IfOk, Result, Ok, Err, refl, sym, ap, ◌∙◌, subst, Activity, Deed, Op, KeepsAllButPages, MayFetch, forced_state, stopped_state, StoreState, Outcome, CountsNoOp, counted_by, FailsToWrite, FlushesOnce, ForcesAll, Machine, DoesDeed, with_standing, MayDo, RunningCore, TakesNextLine, TakesNextMerging, TakesNextPosting}
+use Rattle.std.proofs.Common.{IfErr}
+use Rattle.hb_core.specs.Counting.{CountsOp, CountsPart, CountsStep, DidOp, DoesNoOp, OnlyBrings}
+use Rattle.hb_core.specs.Counts.{counted}
 use Rattle.hb_outside.specs.Memory.{next_count}
-use Rattle.hb_core.specs.Forcing.{FailsToWrite, FlushesOnce, ForcesAll}
-use Rattle.hb_core.specs.Machines.{Machine}
-use Rattle.hb_core.specs.Moving.{DoesDeed, with_standing}
-use Rattle.hb_core.specs.Performing.{DoesOp, MayDo}
-use Rattle.hb_core.specs.Showing.{RunningCore}
-use Rattle.hb_core.specs.Taking.{TakesNextLine, TakesNextMerging, TakesNextPosting}
+use Rattle.hb_steps.specs.Performing.{DoesOp}
 use Rattle.hb_core.proofs.Running.StepTaken.{with_taken}
 
 -- ---- stores of which no operation made anything

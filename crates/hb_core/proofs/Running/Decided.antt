@@ -1,40 +1,9 @@
 -- A decider may be asked at a step that has its pages, and what it says is a row of the step.
-use Rattle.std.proofs.Common.{◌≡◌, ◌⊎◌, inl, inr, ℕ, ◌==◌, Bool, true, false, cond, List, length, Option, IfSome, refl, sym, ap, ◌∙◌, subst}
-use Rattle.std.proofs.lemmas.Option.{same_Some}
-use Rattle.hb_disk.specs.Model.{DiskModel}
-use Rattle.hb_space.specs.Boxes.{Area}
-use Rattle.hb_space.specs.Points.{IsPoint}
-use Rattle.hb_space.specs.declared.records.Record.{Record}
-use Rattle.hb_frag.specs.declared.pages.LivePage.{LivePage}
-use Rattle.hb_space.specs.Actors.{IsActor}
-use Rattle.hb_set.specs.declared.scripts.Line.{Line}
-use Rattle.hb_activity.specs.declared.wanting.Wanted.{Wanted}
-use Rattle.hb_activity.specs.declared.activities.Activity.{Activity}
+use Rattle.hb_core.proofs.Running.Names.{◌≡◌, ◌⊎◌, inl, inr, ℕ, ◌==◌, Bool, true, false, cond, List, length, Option, IfSome, refl, sym, ap, ◌∙◌, subst, same_Some, DiskModel, Area, IsPoint, Record, LivePage, IsActor, Line, Wanted, Activity, Consolidators, Flushers, Posters, Sessions, class_of, Deed, Sight, goal_of, walk_point, ConsolidatorRow, PointRow, WantsBoxes, PosterRow, SearchRow, StoreState, corner_ahead, has_last, wanted_by, class_for, MachineKeeps, IsMerging, AsksPoint, AsksPoster, AsksSearcher, HasPointRow, HasPosterRow, HasSearchRow, WalksToSearch, sight_in, number_of_row, AsksMerger, HasMergerRow, Machine, sight, StandsAs, IsAtHand, Row, RunningCore, IsWorking, HasPages, with_memory}
 use Rattle.hb_activity.specs.declared.activities.Activity.TheVariants as at
-use Rattle.hb_activity.specs.Classes.{Consolidators, Flushers, Posters, Sessions, class_of}
-use Rattle.hb_activity.specs.Deeds.{Deed}
-use Rattle.hb_activity.specs.Sights.{Sight}
-use Rattle.hb_activity.specs.Walks.{goal_of, walk_point}
-use Rattle.hb_consol.specs.MergeRows.{ConsolidatorRow}
-use Rattle.hb_point.specs.SessionRows.{PointRow, WantsBoxes}
-use Rattle.hb_poster.specs.PosterRows.{PosterRow}
-use Rattle.hb_search.specs.Searching.{SearchRow}
-use Rattle.hb_store.specs.States.{StoreState}
-use Rattle.hb_core.proofs.Machines.BoxesAhead.{corner_ahead, has_last}
 use Rattle.hb_core.proofs.Running.Asked.{HasWanted, alone, has_goal, has_wanted, merger_asks, merger_wants, poster_asks, poster_wants, searcher_asks, session_asks, session_wants}
 use Rattle.hb_core.proofs.Running.LiftedRows.{row_of_search, row_of_walk}
-use Rattle.hb_core.specs.Asking.{wanted_by}
-use Rattle.hb_core.specs.KeptFits.{class_for}
-use Rattle.hb_core.specs.KeptMachine.{MachineKeeps}
-use Rattle.hb_core.specs.KeptMerges.{IsMerging}
-use Rattle.hb_core.specs.AskingDeciders.{AsksPoint, AsksPoster, AsksSearcher, HasPointRow, HasPosterRow, HasSearchRow, WalksToSearch, sight_in}
-use Rattle.hb_core.specs.Looking.{number_of_row}
-use Rattle.hb_core.specs.LookingToMerge.{AsksMerger, HasMergerRow}
-use Rattle.hb_core.specs.Machines.{Machine, sight}
-use Rattle.hb_core.specs.Moving.{StandsAs}
-use Rattle.hb_core.specs.Rows.{IsAtHand, Row, RowAt}
-use Rattle.hb_core.specs.Showing.{RunningCore}
-use Rattle.hb_core.specs.Working.{HasPages, IsWorking, with_memory}
+use Rattle.hb_steps.specs.Rows.{RowAt}
 
 -- ---- who is at work
 

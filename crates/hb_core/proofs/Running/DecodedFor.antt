@@ -1,28 +1,10 @@
 -- Where a decider lacks memory, the step decodes pages.
-use Rattle.std.proofs.Common.{◌≡◌, ℕ, Option, Some, None, sym, ◌∙◌, subst}
-use Rattle.std.proofs.lemmas.Option.{same_Some}
-use Rattle.hb_disk.specs.Model.{DiskModel}
-use Rattle.hb_space.specs.Actors.{IsActor}
-use Rattle.hb_activity.specs.declared.wanting.Wanted.{Wanted}
-use Rattle.hb_activity.specs.declared.activities.Activity.{Activity}
+use Rattle.hb_core.proofs.Running.Names.{◌≡◌, ℕ, Option, Some, None, sym, ◌∙◌, subst, same_Some, DiskModel, IsActor, Wanted, Activity, Posters, class_of, StoreState, corner_ahead, has_last, Decodes, wanted_by, WalksToSearch, MachineKeeps, IsMerging, number_of_row, Machine, StandsAs, IsAtHand, RunningCore, IsWorking, HasPages, with_memory}
 use Rattle.hb_activity.specs.declared.activities.Activity.TheVariants as at
-use Rattle.hb_activity.specs.Classes.{Posters, class_of}
 use Rattle.hb_search.specs.Searching.{GathersNow}
-use Rattle.hb_store.specs.States.{StoreState}
-use Rattle.hb_core.proofs.Machines.BoxesAhead.{corner_ahead, has_last}
 use Rattle.hb_core.proofs.Running.Asked.{Needs, at_number, has_wanted, session_wants}
 use Rattle.hb_core.proofs.Running.Decided.{merges, posts, stands, works}
-use Rattle.hb_core.specs.Acting.{Decodes}
-use Rattle.hb_core.specs.Asking.{wanted_by}
-use Rattle.hb_core.specs.AskingDeciders.{DecodesNow, GathersAt, WalksToSearch}
-use Rattle.hb_core.specs.KeptMachine.{MachineKeeps}
-use Rattle.hb_core.specs.KeptMerges.{IsMerging}
-use Rattle.hb_core.specs.Looking.{number_of_row}
-use Rattle.hb_core.specs.Machines.{Machine}
-use Rattle.hb_core.specs.Moving.{StandsAs}
-use Rattle.hb_core.specs.Rows.{IsAtHand}
-use Rattle.hb_core.specs.Showing.{RunningCore}
-use Rattle.hb_core.specs.Working.{HasPages, IsWorking, with_memory}
+use Rattle.hb_steps.specs.AskingDeciders.{DecodesNow, GathersAt}
 
 -- a worker at work decodes whatever it reads
 poster_by : (wanted : Option Wanted) (m : Machine) (activity : Activity) → class_of activity ≡ Posters → IsWorking activity → Decodes wanted m activity

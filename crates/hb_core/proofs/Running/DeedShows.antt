@@ -1,29 +1,15 @@
 -- What a deed makes of a core is a step's deed of the machine that it shows, and the core then shows what this leads to.
-use Rattle.std.proofs.Common.{◌≡◌, ℕ, ◌-◌, List, ◌++◌, length, map, slice_get, Option, Some, None, IsSome, refl, sym, ap, ◌∙◌, subst}
-use Rattle.std.proofs.lemmas.List.{length-map, map-append}
-use Rattle.hb_activity.specs.declared.activities.Activity.{Activity}
+use Rattle.hb_core.proofs.Running.Names.{◌≡◌, ◌≢◌, ℕ, ◌-◌, List, ◌++◌, length, Option, Some, None, IsSome, refl, sym, ap, ◌∙◌, subst, length-map, map-append, Activity, Job, Deed, DiskModel, Live, StoreState, in_memory, Brings, LatchesFit, table_follows, same_held, IsActor, at_itself, at_other, Op, Entry, Outcome, LinesInSequence, MustStay, StaysHere, Files, Machine, with_activity, DoesDeed, KeepsFilesBy, numbers_joined, with_standing, MayDo, Performs, outcome_of, RunningCore, ShowsFiles, ShowsMachine, ShowsBut, with_memory, option_to_list}
+use Rattle.std.proofs.Common.{map, slice_get}
 use Rattle.hb_activity.specs.declared.activities.Activity.TheVariants as at
-use Rattle.hb_activity.specs.declared.jobs.Job.{Job}
-use Rattle.hb_activity.specs.Deeds.{Deed}
-use Rattle.hb_disk.specs.Model.{DiskModel}
-use Rattle.hb_latch.specs.Tables.{LatchTable}
-use Rattle.hb_space.specs.Actors.{IsActor}
-use Rattle.hb_lemmas.proofs.Booleans.{at_other}
-use Rattle.hb_ops.specs.declared.operations.Op.{Op}
-use Rattle.hb_set.specs.Order.{Entry}
-use Rattle.hb_core.specs.declared.outcomes.Outcome.{Outcome}
-use Rattle.hb_core.specs.KeptSequence.{LinesInSequence}
-use Rattle.hb_core.specs.Fetching.{MustStay}
-use Rattle.hb_store.specs.Calls.{StaysHere}
-use Rattle.hb_core.specs.Machines.{Files, Machine, with_activity}
-use Rattle.hb_core.specs.Moving.{DoesDeed, KeepsFilesBy, later_with, numbers_joined, with_standing}
-use Rattle.hb_core.specs.Performing.{ChangesQueue, MayDo, Performs, Relatches, files_after, given_by, latches_held, outcome_of}
-use Rattle.hb_core.specs.Showing.{RunningCore, ShowsFiles, ShowsMachine}
-use Rattle.hb_core.specs.Working.{ShowsBut, with_memory}
+use Rattle.hb_steps.proofs.Facts.Ways.{nothing_done}
+use Rattle.hb_steps.proofs.Latches.SameLatches.{HasHeld}
+use Rattle.hb_steps.proofs.Memory.BroughtPages.{still_held}
+use Rattle.hb_core.specs.Moving.{later_with}
+use Rattle.hb_steps.specs.Performing.{ChangesQueue, files_after, given_by}
 use Rattle.hb_core.proofs.Running.NumbersInHand.{NumberFate, line_of_number}
 use Rattle.hb_core.proofs.Running.StandsElsewhere.{stand_then, still_all}
 use Rattle.hb_core.proofs.Running.TurnsAfter.{has_turn, turn_after, turn_at}
-use Rattle.std.specs.Option.{option_to_list}
 
 -- the machine after a deed, with what the core holds then
 abbrev pub after_deed : RunningCore → Machine → ℕ → Deed → Machine
@@ -31,7 +17,6 @@ after_deed c m actor deed = record {
   lines = m.lines;
   answered = m.answered ++ given_by (outcome_of deed.says) m.clock;
   activity = with_activity actor deed.next m.activity;
-  latches = c.latches;
   jobs = c.jobs;
   order = m.order ++ option_to_list deed.joins;
   stop = m.stop;
@@ -65,7 +50,6 @@ module _ (d : DiskModel) (c after : RunningCore) (m : Machine) (actor : ℕ) (de
     lines = refl;
     answered = refl;
     activity = λ other. refl;
-    latches = subst (λ (t : LatchTable). Relatches actor (latches_held after.store deed.next) t after.latches) (sym shows.latches) does.latches;
     jobs = subst (λ (l : List Job). ChangesQueue deed l after.jobs) (sym shows.jobs) does.jobs;
     order = refl;
     stop = refl;
@@ -95,8 +79,8 @@ module _ (d : DiskModel) (c after : RunningCore) (m : Machine) (actor : ℕ) (de
   nobody_new : (other : ℕ) → ¬ (IsActor other) → with_activity actor deed.next m.activity other ≡ at.SessionIdle
   nobody_new other none = at_other other actor deed.next (m.activity other) (λ same. none (subst IsActor (sym same) may)) ∙ shows.nobody_else other none
 
-  pub deed_shows : LinesInSequence m → NumberFate (m.activity actor) deed → KeepsFilesBy deed.op d c.store d after.store → (new : Machine) × ((p : Performs m c.store actor deed outcome new) × (p.came ≡ c.uses) × (p.pins ≡ pins)) × ShowsMachine d after new
-  deed_shows turn fate keeps = (
+  pub deed_shows : (may_come : ℕ → Type 0) → LatchesFit m → Brings m may_come c.store → (Performs m c.store actor deed outcome new → (other : ℕ) → other ≢ actor → HasHeld m other after.store) → LinesInSequence m → NumberFate (m.activity actor) deed → KeepsFilesBy deed.op d c.store d after.store → (new : Machine) × ((p : Performs m c.store actor deed outcome new) × (p.came ≡ c.uses) × (p.pins ≡ pins)) × ShowsMachine d after new
+  deed_shows may_come fit brings held turn fate keeps = (
     new,
     (performed, refl, refl),
     record {
@@ -109,7 +93,8 @@ module _ (d : DiskModel) (c after : RunningCore) (m : Machine) (actor : ℕ) (de
       all_actors = ap (λ (l : List Activity). length l) (of_core (λ s. s.activities)) ∙ still_all c.activities m.activity actor (m.activity actor) deed.next may shows.all_actors;
       activities = λ other its. ap (λ (l : List Activity). slice_get l (other - 1)) (of_core (λ s. s.activities)) ∙ stand_then c.activities m.activity actor (m.activity actor) deed.next may shows.all_actors shows.activities other its;
       nobody_else = nobody_new;
-      latches = refl;
+      latches = table_follows m fit new actor deed.next c.latches after.latches (sym (same_held m may_come c.store brings fit) ∙ shows.latches) does.latches (at_itself actor deed.next (m.activity actor))
+          (λ other off. at_other other actor deed.next (m.activity other) off) (held performed);
       jobs = refl;
       order = map-append (λ (e : Entry). e.line.number) m.order (option_to_list deed.joins)
           ∙ ap (λ (l : List ℕ). l ++ map (λ (e : Entry). e.line.number) (option_to_list deed.joins)) shows.order
@@ -121,3 +106,9 @@ module _ (d : DiskModel) (c after : RunningCore) (m : Machine) (actor : ℕ) (de
       silent = λ none. ap (files_after deed.op) (shows.silent none) ∙ files_untold deed.op;
     },
   )
+
+-- what does nothing to the file leaves the pages that are held
+pub nothing_moves : (m : Machine) (may : ℕ → Type 0) (fetched : StoreState) (deed : Deed) (actor : ℕ) (outcome : Outcome) (new : Machine) → Brings m may fetched → deed.op ≡ None
+    → Performs m fetched actor deed outcome new → (other : ℕ) → other ≢ actor → HasHeld m other new.store
+nothing_moves m may fetched deed actor outcome new brings none performs other off id mode page holds there =
+    ap (λ (s : StoreState). in_memory s id) (nothing_done deed.op _ fetched new.store none performs.store) ∙ still_held m may fetched brings other id mode (Live page) holds there

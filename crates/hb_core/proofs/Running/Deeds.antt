@@ -1,40 +1,16 @@
 -- What the calls of a core make of it, put together: a deed.
-use Rattle.std.proofs.Common.{◌≡◌, ℕ, List, [], ◌++◌, length, Option, Some, None, refl, sym, ap, subst, ◌∙◌, append-nil}
-use Rattle.hb_latch.specs.Tables.{LatchTable}
-use Rattle.hb_activity.specs.declared.activities.Activity.{Activity}
+use Rattle.hb_core.proofs.Running.Names.{◌≡◌, ℕ, List, [], ◌++◌, length, Option, Some, None, refl, sym, ap, subst, ◌∙◌, append-nil, LatchTable, Activity, Fate, Next, Job, Class, Hand, Empty, HasLine, HasJob, class_of, hand_of, idle_of, deed_of, joined_by, Deed, answers_now, takes_job, AddsJobs, StoreState, Outcome, gives_up, reply_for, DropWhy, Latch, Op, Use, Reply, IsTied, counted_by, DoesDeed, StandsFree, joins_order, number_of, numbers_joined, placed_at, with_order_of_use, with_standing, with_store, CanMovePins, CanUnpin, pages_of, use_done, use_held, MayDo, Relatches, latches_held, outcome_of, RunningCore, IsWorking, class_for, same_Some, none-some, option_to_list}
 use Rattle.hb_activity.specs.declared.activities.Activity.TheVariants as at
-use Rattle.hb_activity.specs.declared.deciding.Fate.{Fate}
 use Rattle.hb_activity.specs.declared.deciding.Fate.TheVariants as fates
-use Rattle.hb_activity.specs.declared.deciding.Next.{Next}
-use Rattle.hb_activity.specs.declared.jobs.Job.{Job}
-use Rattle.hb_activity.specs.Classes.{Class, Hand, Empty, HasLine, HasJob, class_of, hand_of, idle_of}
-use Rattle.hb_activity.specs.Deciding.{deed_of, joined_by, said_by}
-use Rattle.hb_activity.specs.Deeds.{Deed, answers_now, takes_job}
-use Rattle.hb_activity.specs.Queue.{AddsJobs, LeavesBy, LeavesFirst}
-use Rattle.hb_store.specs.States.{StoreState}
-use Rattle.hb_core.specs.declared.outcomes.Outcome.{Outcome}
-use Rattle.hb_core.specs.declared.outcomes.Outcome.TheVariants as outcomes
-use Rattle.hb_core.specs.GivingUp.{drops_job, gives_up, reply_for}
-use Rattle.hb_activity.specs.declared.dropping.DropWhy.{DropWhy}
-use Rattle.hb_activity.specs.declared.holding.Latch.{Latch}
-use Rattle.hb_ops.specs.declared.operations.Op.{Op}
-use Rattle.hb_pool.specs.Frames.{Use}
-use Rattle.hb_set.specs.declared.commands.Reply.{Reply}
-use Rattle.hb_store.specs.Held.{IsTied}
+use Rattle.hb_activity.specs.Deciding.{said_by}
+use Rattle.hb_activity.specs.Queue.{LeavesBy, LeavesFirst}
+use Rattle.hb_steps.specs.declared.outcomes.Outcome.TheVariants as outcomes
+use Rattle.hb_steps.specs.GivingUp.{drops_job}
 use Rattle.hb_core.proofs.Running.Pins.{tied_held}
 use Rattle.hb_core.specs.declared.counts.TidyCounts.{TidyCounts}
-use Rattle.hb_core.specs.Counts.{counted_by}
-use Rattle.hb_core.specs.Moving.{DoesDeed, KeepsStaying, StandsFree, StandsNow, joins_order, number_of, numbers_joined, placed, placed_at, said, with_counts, with_jobs, with_order, with_order_of_use, with_standing, with_store}
-use Rattle.hb_core.specs.Pinning.{CanMovePins, CanUnpin}
-use Rattle.hb_core.specs.Using.{pages_of, use_done, use_held}
-use Rattle.hb_core.specs.Performing.{MayDo, Relatches, latches_held, outcome_of}
-use Rattle.hb_core.specs.Showing.{RunningCore}
-use Rattle.hb_core.specs.Working.{IsWorking}
-use Rattle.hb_core.specs.KeptFits.{class_for}
-use Rattle.hb_core.proofs.Table.DeedKinds.{line_is_sessions}
-use Rattle.hb_core.proofs.Table.GivenUp.{given_up_is, idle_latches}
-use Rattle.std.proofs.lemmas.Option.{same_Some, none-some}
-use Rattle.std.specs.Option.{option_to_list}
+use Rattle.hb_core.specs.Moving.{KeepsStaying, StandsNow, placed, said, with_counts, with_jobs, with_order}
+use Rattle.hb_steps.proofs.Table.DeedKinds.{line_is_sessions}
+use Rattle.hb_steps.proofs.Table.GivenUp.{given_up_is, idle_latches}
 
 -- a deed, by what became of the store, the order of use, the jobs, the latches and the counts
 pub does_deed : (actor : ℕ) (pins : List ℕ) (deed : Deed) (outcome : Outcome) (old new : RunningCore) (store : StoreState) (uses : List Use) (left jobs : List Job) (latches : LatchTable) (counts : TidyCounts)

@@ -1,22 +1,8 @@
 -- A core flushes once, as a step of the machine that it shows.
-use Rattle.std.proofs.Common.{◌≡◌, ◌≢◌, inl, inr, ℕ, ◌<◌, List, [], Some, None, Ok, Err, refl, sym, ap, ◌∙◌, subst}
-use Rattle.hb_disk.specs.Model.{DiskModel}
-use Rattle.hb_pool.specs.Frames.{Use}
-use Rattle.hb_store.specs.Forced.{WritesGroups}
-use Rattle.hb_store.specs.Held.{StoreHeld, oldest_dirty}
-use Rattle.hb_store.specs.States.{StoreState}
-use Rattle.hb_store.specs.WritingHome.{FlushesHome}
+use Rattle.hb_core.proofs.Running.Names.{◌≡◌, ◌≢◌, inl, inr, ℕ, ◌<◌, List, [], Some, None, Ok, Err, refl, sym, ap, ◌∙◌, subst, DiskModel, Use, WritesGroups, StoreHeld, oldest_dirty, StoreState, FlushesHome, Outcome, CountsNoOp, FlushesOnce, StaysSo, Machine, with_stop, RunningCore, ShowsMachine, held_in, MayStep}
 use Rattle.hb_store.specs.declared.stops.StopWhy.TheVariants as stops
 use Rattle.hb_store.specs.declared.stops.WriteFault.{WriteFault}
-use Rattle.hb_core.specs.declared.outcomes.Outcome.{Outcome}
-use Rattle.hb_core.specs.declared.outcomes.Outcome.TheVariants as outcomes
-use Rattle.hb_core.specs.Counting.{CountsNoOp}
-use Rattle.hb_core.specs.Forcing.{FlushesOnce, StaysSo}
-use Rattle.hb_core.specs.Machines.{Machine}
-use Rattle.hb_core.specs.Moving.{with_stop}
-use Rattle.hb_core.specs.Showing.{RunningCore, ShowsMachine}
-use Rattle.hb_core.specs.Touching.{held_in}
-use Rattle.hb_core.specs.Working.{MayStep}
+use Rattle.hb_steps.specs.declared.outcomes.Outcome.TheVariants as outcomes
 use Rattle.hb_core.proofs.Running.Counted.{flush_no_op, no_op_shown}
 use Rattle.hb_core.proofs.Running.ForcedShows.{fails, forces, waits_or_not, with_held}
 use Rattle.hb_core.proofs.Running.WrittenShows.{fails_home, fails_turn, home_failed, home_none, home_some, home_turn, old_now, oldest_now, stayed_shown, turns_well, writes_well}

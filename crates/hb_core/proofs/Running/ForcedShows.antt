@@ -1,26 +1,12 @@
 -- A force of a core's store is a force of the machine that it shows, or stops it.
-use Rattle.std.proofs.Common.{◌≡◌, ◌≢◌, ◌⊎◌, inl, inr, ℕ, ◌+◌, ◌≤◌, List, [], ◌∷◌, Option, Some, None, IsSome, IfSome, Ok, Err, refl, sym, ap, ◌∙◌, subst, arith}
-use Rattle.std.specs.Option.{option_map}
-use Rattle.hb_disk.specs.Model.{DiskModel}
-use Rattle.hb_lemmas.proofs.Options.{was_some, not_there}
-use Rattle.hb_ops.specs.Files.{FileState, last_of}
-use Rattle.hb_store.specs.Forced.{WritesGroups, forced_state, stopped_state}
-use Rattle.hb_store.specs.Keeps.{StoreKeeps}
-use Rattle.hb_store.specs.States.{StoreState}
-use Rattle.hb_store.specs.declared.stops.StopWhy.{StopWhy}
+use Rattle.hb_core.proofs.Running.Names.{◌≡◌, ◌≢◌, ◌⊎◌, inl, inr, ℕ, ◌+◌, ◌≤◌, List, [], ◌∷◌, Option, Some, None, IsSome, IfSome, Ok, Err, refl, sym, ap, ◌∙◌, subst, arith, option_map, DiskModel, was_some, FileState, last_of, WritesGroups, forced_state, stopped_state, StoreKeeps, StoreState, StopWhy, Waiting, Outcome, FailsToWrite, ForcesAll, Files, Machine, modes, stopped_for, with_disk, with_uses, with_order_of_use, with_stop, with_store, Use, RunningCore, ShowsFiles, ShowsMachine, false≢true}
+use Rattle.hb_lemmas.proofs.Options.{not_there}
 use Rattle.hb_store.specs.declared.stops.StopWhy.TheVariants as stops
 use Rattle.hb_store.specs.declared.stops.WriteFault.{WriteFault}
 use Rattle.hb_wal.specs.Forces.{calls_of_force}
-use Rattle.hb_wal.specs.Log.{Waiting}
-use Rattle.hb_core.specs.declared.outcomes.Outcome.{Outcome}
-use Rattle.hb_core.specs.declared.outcomes.Outcome.TheVariants as outcomes
-use Rattle.hb_core.specs.Forcing.{FailsToWrite, ForcesAll, forced_files}
-use Rattle.hb_core.specs.Machines.{Files, Machine, stopped_for, with_disk, with_uses}
-use Rattle.hb_core.specs.Moving.{with_order_of_use, with_stop, with_store}
+use Rattle.hb_steps.specs.declared.outcomes.Outcome.TheVariants as outcomes
+use Rattle.hb_steps.specs.Forcing.{forced_files}
 use Rattle.hb_disk.specs.Calls.{Becomes}
-use Rattle.hb_pool.specs.Frames.{Use}
-use Rattle.hb_core.specs.Showing.{RunningCore, ShowsFiles, ShowsMachine}
-use Rattle.std.proofs.lemmas.Bool.{false≢true}
 
 -- ---- where a disk tells its bytes
 
@@ -48,16 +34,16 @@ with_held st uses c = with_order_of_use uses (with_store st c)
 
 -- What a core over another disk shows, with another store and order of use: all else stays.
 module _ (d e : DiskModel) (c : RunningCore) (st : StoreState) (uses : List Use) (m : Machine) (shows : ShowsMachine d c m) where
-  pub shown_with : (store : StoreState) (used : List Use) (files : Option Files) (clock : ℕ) → store ≡ st → used ≡ uses → (IsSome e.told → ShowsFiles e (with_uses used (with_disk store files clock m))) → (e.told ≡ None → files ≡ None)
+  pub shown_with : (store : StoreState) (used : List Use) (files : Option Files) (clock : ℕ) → modes (with_disk store files clock m) ≡ modes m → store ≡ st → used ≡ uses → (IsSome e.told → ShowsFiles e (with_uses used (with_disk store files clock m))) → (e.told ≡ None → files ≡ None)
       → ShowsMachine e (with_held st uses c) (with_uses used (with_disk store files clock m))
-  shown_with store used files clock same same_use tells silent = record {
+  shown_with store used files clock held same same_use tells silent = record {
     lines = shows.lines;
     sessions = shows.sessions;
     turns = λ session behind low high is. let had = shows.turns session behind low high is in record { few = had.few; front = had.front; back = had.back };
     all_actors = shows.all_actors;
     activities = shows.activities;
     nobody_else = shows.nobody_else;
-    latches = shows.latches;
+    latches = held ∙ shows.latches;
     jobs = shows.jobs;
     order = shows.order;
     stop = shows.stop;
@@ -120,7 +106,7 @@ module _ (d e : DiskModel) (c : RunningCore) (st : StoreState) (uses : List Use)
         }
 
     pub forced_shown : ShowsMachine e (with_held st uses c) (forced m)
-    forced_shown = shown_with d e c st uses m shows (forced_state m.store) m.uses (option_map forced_files m.files) (m.clock + calls_of_force m.store.log.groups) same (shows.uses ∙ sym same_use) tells_then
+    forced_shown = shown_with d e c st uses m shows (forced_state m.store) m.uses (option_map forced_files m.files) (m.clock + calls_of_force m.store.log.groups) refl same (shows.uses ∙ sym same_use) tells_then
         (λ none. ap (option_map forced_files) (shows.silent (silent_before _ d.told e.told writes.wrote.became.told none)))
 
     pub forces : (done : Outcome) → (new : Machine) × ForcesAll m done done new × ShowsMachine e (with_held st uses c) new
@@ -134,7 +120,7 @@ module _ (d e : DiskModel) (c : RunningCore) (st : StoreState) (uses : List Use)
     stops_at clock from few tells = (
       stopped_for stops.WriteFault (failed clock m),
       record { clock = clock; from = from; few = few; says = refl; stops = refl },
-      shown_stopped stops.WriteFault e (with_held st uses c) (failed clock m) (shown_with d e c st uses m shows (stopped_state m.store) m.uses m.files clock same (shows.uses ∙ sym same_use)
+      shown_stopped stops.WriteFault e (with_held st uses c) (failed clock m) (shown_with d e c st uses m shows (stopped_state m.store) m.uses m.files clock refl same (shows.uses ∙ sym same_use)
           (λ told.
           let was = was_some d.told e.told became.silent told in
           let had = shows.tells was in

@@ -1,34 +1,18 @@
 -- What the frames of a machine tell of the pages that a step needs: which stay, how few pins they have, and what a page that comes makes
 -- of that.
-use Rattle.std.proofs.Common.{◌≡◌, inl, inr, ℕ, ◌+◌, ◌<◌, ◌≤◌, true, false, List, [], cond, Option, Some, None, IsSome, IsTrue, refl, sym, ap, subst, ◌∙◌, arith}
+use Rattle.hb_core.proofs.Running.Names.{◌≡◌, inl, inr, ℕ, ◌+◌, ◌<◌, ◌≤◌, true, false, List, [], cond, Option, Some, None, IsSome, IsTrue, refl, sym, ap, subst, ◌∙◌, arith, nat_cmp, is_some, option_map_or, false≢true, has_value, Wanted, Mode, HeldModes, Use, frame_of, StaysHere, use_fetched, IsTied, StoreState, holders_moved, one_if, PinsMore, times, MustStay, MachineKeeps, Machine, modes, page_wanted, pins_of, RunningCore, MayStep, DiskModel}
 use Rattle.std.specs.FinSet as set
-use Rattle.std.specs.Ordering.{nat_cmp}
-use Rattle.std.specs.Option.{IsSomeAnd, is_some, option_map_or}
-use Rattle.std.proofs.lemmas.Bool.{false≢true}
+use Rattle.std.specs.Option.{IsSomeAnd}
 use Rattle.std.proofs.lemmas.List.Sums.{count_by-le-length}
-use Rattle.hb_lemmas.proofs.Options.{has_value, not_none}
-use Rattle.hb_activity.specs.declared.wanting.Wanted.{Wanted}
-use Rattle.hb_latch.specs.declared.modes.Mode.{Mode}
-use Rattle.hb_latch.specs.Tables.{LatchTable, mode_at}
 use Rattle.hb_pool.proofs.Facts.Others.{came_in}
 use Rattle.hb_pool.proofs.Facts.Pooled.{dirty_stays, pinned_stays}
-use Rattle.hb_pool.specs.Frames.{IsStaying, Use, fresh}
-use Rattle.hb_pool.specs.Pools.{brought, frame_of}
-use Rattle.hb_store.specs.Calls.{StaysHere, use_fetched}
-use Rattle.hb_store.specs.Held.{IsTied}
-use Rattle.hb_store.specs.States.{StoreState, is_dirty}
-use Rattle.hb_core.proofs.Machines.HoldersMoved.{holders_moved}
-use Rattle.hb_core.proofs.Machines.PinCounts.{IsSingle, brought_pins, one_if}
-use Rattle.hb_core.proofs.Machines.PinsFollow.{PinsMore, times}
-use Rattle.hb_core.proofs.Facts.StillThere.{may_or_not}
+use Rattle.hb_pool.specs.Frames.{IsStaying, fresh}
+use Rattle.hb_pool.specs.Pools.{brought}
+use Rattle.hb_store.specs.States.{is_dirty}
+use Rattle.hb_steps.proofs.Machines.PinCounts.{IsSingle, brought_pins}
+use Rattle.hb_steps.proofs.Facts.StillThere.{holder_may}
 use Rattle.hb_core.proofs.Running.Pins.{few_pins, times_first}
-use Rattle.hb_core.specs.Fetching.{MustStay}
-use Rattle.hb_core.specs.KeptMachine.{MachineKeeps}
-use Rattle.hb_core.specs.Machines.{Machine}
-use Rattle.hb_core.specs.Using.{actors, holders, page_wanted, pins_of}
-use Rattle.hb_core.specs.Showing.{RunningCore}
-use Rattle.hb_core.specs.Working.{MayStep}
-use Rattle.hb_disk.specs.Model.{DiskModel}
+use Rattle.hb_steps.specs.Using.{actors, holders}
 
 -- ---- which pages stay
 
@@ -54,14 +38,11 @@ wanted_here wants old uses pinned wanted is =
     pinned_here uses wanted.page (omega (arith, more, here))
 
 -- who has latched a page counts
-pub latched_counts : (m : Machine) (keeps : MachineKeeps m) (actor id : ℕ) (mode : Mode) → mode_at m.latches actor id ≡ Some mode → 0 < holders m.latches id
-latched_counts m keeps actor id mode holds = elim (may_or_not actor) [
-  | inl may ↦
-      let own : one_if (is_some (mode_at m.latches actor id)) ≡ 1 = ap (λ (o : Option Mode). one_if (is_some o)) holds in
-      let least = (holders_moved actor m.latches m.latches may (λ other page apart. refl) id).1 in
-      omega (arith, own, least)
-  | inr none ↦ absurd (not_none (mode_at m.latches actor id) mode holds (keeps.no_other_latches actor id none))
-]
+pub latched_counts : (m : Machine) (keeps : MachineKeeps m) (actor id : ℕ) (mode : Mode) → modes m actor id ≡ Some mode → 0 < holders (modes m) id
+latched_counts m keeps actor id mode holds =
+    let own : one_if (is_some (modes m actor id)) ≡ 1 = ap (λ (o : Option Mode). one_if (is_some o)) holds in
+    let least = (holders_moved actor (modes m) (modes m) (holder_may m keeps.nobody_else actor id mode holds) (λ other page apart. refl) id).1 in
+    omega (arith, own, least)
 
 pub must_here : (m : Machine) (st : StoreState) (uses : List Use) → MachineKeeps m → st.dirty ≡ m.store.dirty → IsTied st uses → ((q : ℕ) → pins_of m.uses q ≤ pins_of uses q) → (id : ℕ) → MustStay m id → StaysHere uses id
 must_here m st uses keeps same tied more id (inl (actor, mode, holds)) =
@@ -81,8 +62,8 @@ module _ (d : DiskModel) (c : RunningCore) (m : Machine) (step : MayStep d c m) 
 
 -- ---- few pins
 
-pub few_hold : (table : LatchTable) (id : ℕ) → holders table id ≤ 19
-few_hold table id = count_by-le-length (λ (actor : ℕ). is_some (mode_at table actor id)) actors
+pub few_hold : (modes : HeldModes) (id : ℕ) → holders modes id ≤ 19
+few_hold modes id = count_by-le-length (λ (actor : ℕ). is_some (modes actor id)) actors
 
 -- ---- a page that comes
 
@@ -105,5 +86,5 @@ pub may_pin : (m : Machine) (keeps : MachineKeeps m) (id : ℕ) (uses : List Use
 may_pin m keeps id uses is = subst (λ (l : List Use). IsSomeAnd (frame_of l id) (λ (u : Use). u.pins < 255)) (sym is)
     (let same = fetched_pins id m.uses keeps.frames_fit.tied.pool.distinct id in
     let pins = keeps.frames_fit.pins id in
-    let few = few_hold m.latches id in
+    let few = few_hold (modes m) id in
     few_pins (use_fetched id m.uses) id (fetched_there id m.uses) (omega (arith, same, pins, few)))

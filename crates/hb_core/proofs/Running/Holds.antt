@@ -1,46 +1,14 @@
 -- The pins of an actor can go over from the wanted page and those of its latches to those of its latches once a row is done.
-use Rattle.std.proofs.Common.{◌≡◌, inl, inr, ℕ, ◌+◌, ◌<◌, ◌≤◌, ◌==◌, Bool, true, false, cond, List, [], ◌∷◌, ◌++◌, length, Option, Some, None, IsSome, refl, sym, ap, ◌∙◌, subst, arith}
-use Rattle.std.specs.Option.{is_some}
-use Rattle.std.proofs.lemmas.Bool.{cases_Bool}
-use Rattle.std.proofs.lemmas.List.{length-map}
-use Rattle.hb_disk.specs.Model.{DiskModel}
-use Rattle.hb_frag.specs.declared.pages.Page.TheVariants.{Live}
-use Rattle.hb_lemmas.proofs.Options.{has_value}
+use Rattle.hb_core.proofs.Running.Names.{◌≡◌, inl, inr, ℕ, ◌+◌, ◌<◌, ◌≤◌, ◌==◌, Bool, true, false, cond, List, [], ◌∷◌, ◌++◌, length, Option, Some, None, IsSome, refl, sym, ap, ◌∙◌, subst, arith, is_some, cases_Bool, length-map, DiskModel, Live, has_value, Activity, Latch, Deed, Mode, Use, frame_of, IsActor, IsTied, StoreState, in_memory, every_row_backed, holders_moved, latches_differ, one_if, came_stays, times, AnyPage, wanted_by, Brings, MachineKeeps, Machine, with_disk, modes, MayDo, latches_held, mode_among, CanMovePins, CanUnpin, Row, RunningCore, CameFor, page_wanted, pages_of, pins_of, use_done, HasCome, HasPages, with_memory}
+use Rattle.hb_steps.proofs.Memory.BroughtPages.{latches_come}
 use Rattle.hb_activity.proofs.Facts.HeldLatches.{two_at_most}
-use Rattle.hb_activity.specs.declared.activities.Activity.{Activity}
-use Rattle.hb_activity.specs.declared.holding.Latch.{Latch}
-use Rattle.hb_activity.specs.Deeds.{Deed}
-use Rattle.hb_latch.specs.declared.modes.Mode.{Mode}
-use Rattle.hb_latch.specs.Tables.{mode_at}
-use Rattle.hb_pool.specs.Frames.{Use}
-use Rattle.hb_pool.specs.Pools.{frame_of}
-use Rattle.hb_space.specs.Actors.{IsActor}
-use Rattle.hb_store.specs.Held.{IsTied}
-use Rattle.hb_store.specs.States.{StoreState, in_memory}
-use Rattle.hb_core.proofs.Latches.MergerBacked.{every_row_backed}
-use Rattle.hb_core.proofs.Machines.HoldersMoved.{holders_moved}
-use Rattle.hb_core.proofs.Machines.LatchesApart.{known_apart, latches_once}
-use Rattle.hb_core.proofs.Machines.PinCounts.{one_if}
-use Rattle.hb_core.proofs.Machines.PinsFollow.{came_stays, stay_done, times, times_joined}
+use Rattle.hb_steps.proofs.Machines.LatchesApart.{known_apart}
+use Rattle.hb_steps.proofs.Machines.PinsFollow.{stay_done, times_joined}
 use Rattle.hb_core.proofs.Running.Brought.{brings_wider}
 use Rattle.hb_core.proofs.Running.Frames.{few_hold}
 use Rattle.hb_core.proofs.Running.Pins.{can_hold, can_unpin}
 use Rattle.hb_core.proofs.Running.ReadsStay.{pinned_so}
-use Rattle.hb_core.specs.AllowedLaws.{AnyPage}
-use Rattle.hb_core.specs.Asking.{wanted_by}
-use Rattle.hb_core.specs.Fetching.{Brings}
-use Rattle.hb_core.specs.KeptMachine.{MachineKeeps}
-use Rattle.hb_core.specs.Machines.{Machine, with_disk}
-use Rattle.hb_core.specs.Performing.{MayDo, latches_held, mode_among}
-use Rattle.hb_core.specs.Pinning.{CanMovePins, CanUnpin}
-use Rattle.hb_core.specs.Rows.{Row}
-use Rattle.hb_core.specs.Showing.{RunningCore}
-use Rattle.hb_core.specs.Using.{CameFor, page_wanted, pages_of, pins_of, use_done}
-use Rattle.hb_core.specs.Working.{HasCome, HasPages, with_memory}
-use Rattle.hb_core.specs.Asking.{looked_live}
-use Rattle.hb_core.proofs.Running.Looks.{looked_stays}
 use Rattle.hb_core.proofs.Running.StandsElsewhere.{stands_as}
-use Rattle.hb_activity.specs.Holding.{held_of}
 use Rattle.hb_activity.specs.declared.activities.Activity.TheVariants as at
 
 -- ---- how often a page is among those of latches
@@ -67,12 +35,11 @@ latched_page q (latch ∷ rest) some = elim (cases_Bool (latch.page == q)) [
 
 pub held_pinned : (m : Machine) (actor : ℕ) → IsActor actor → MachineKeeps m → (q : ℕ) → times q (pages_of (latches_held m.store (m.activity actor))) ≤ pins_of m.uses q
 held_pinned m actor may keeps q =
-    let once : times q (pages_of (latches_held m.store (m.activity actor))) ≡ one_if (is_some (mode_among q (latches_held m.store (m.activity actor)))) =
-    latches_once m.store (m.activity actor) (keeps.walk_in_space.merging actor) (known_apart m keeps.room_known actor) q in
-    let exact : one_if (is_some (mode_at m.latches actor q)) ≡ one_if (is_some (mode_among q (latches_held m.store (m.activity actor)))) = ap (λ (o : Option Mode). one_if (is_some o)) (keeps.latches_fit.exact actor q may) in
-    let least = (holders_moved actor m.latches m.latches may (λ other page apart. refl) q).1 in
+    let once : times q (pages_of (latches_held m.store (m.activity actor))) ≡ one_if (is_some (modes m actor q)) =
+    (latches_differ m.store (m.activity actor) (keeps.walk_in_space.merging actor) (known_apart m keeps.room_known actor)).once q in
+    let least = (holders_moved actor (modes m) (modes m) may (λ other page apart. refl) q).1 in
     let pins = keeps.frames_fit.pins q in
-    omega (arith, once, exact, least, pins)
+    omega (arith, once, least, pins)
 
 -- so it may be let go, whatever came for a step that comes to no row
 pub may_give_up : (m : Machine) (actor : ℕ) (st : StoreState) (uses : List Use) → IsActor actor → MachineKeeps m → IsTied st uses → CameFor (wanted_by m actor) m.store.meta m.uses uses → CanUnpin (pages_of (latches_held m.store (m.activity actor))) uses
@@ -112,7 +79,7 @@ module _ (m : Machine) (d : DiskModel) (c : RunningCore) (actor : ℕ) (free : O
     few q =
         let now = pins_now q in
         let pins = keeps.frames_fit.pins q in
-        let hold = few_hold m.latches q in
+        let hold = few_hold (modes m) q in
         let one = times_few q (page_wanted (wanted_by m actor)) in
         let first : length (page_wanted (wanted_by m actor)) ≤ 1 = by (wanted_by m actor) in
         let two = times_few q (pages_of (latches_held st deed.next)) in
@@ -129,30 +96,8 @@ module _ (m : Machine) (d : DiskModel) (c : RunningCore) (actor : ℕ) (free : O
 
 -- ---- the pages of the latches are those that the core sees
 
--- a page that a walk holds stays
-held_same : (activity : Activity) (st then : StoreState) → looked_live then activity ≡ looked_live st activity → latches_held then activity ≡ latches_held st activity
-held_same (at.SessionWalk line held rest found) st then same = ap (held_of (at.SessionWalk line held rest found)) same
-held_same (at.PosterWalk job held) st then same = ap (held_of (at.PosterWalk job held)) same
-held_same (at.ConsolidatorWalk job held) st then same = ap (held_of (at.ConsolidatorWalk job held)) same
-held_same at.SessionIdle st then same = refl
-held_same (at.SessionSplit line held) st then same = refl
-held_same (at.SessionPut line source fresh) st then same = refl
-held_same (at.SessionAwait number reply place) st then same = refl
-held_same at.PosterIdle st then same = refl
-held_same (at.PosterGrow job) st then same = refl
-held_same (at.PosterChild job parent) st then same = refl
-held_same (at.PosterPromote job parent) st then same = refl
-held_same (at.PosterAgain job parent) st then same = refl
-held_same at.ConsolidatorIdle st then same = refl
-held_same (at.ConsolidatorScan job parent child) st then same = refl
-held_same (at.ConsolidatorTry job parent keep gone leaf) st then same = refl
-held_same (at.ConsolidatorPromote job parent keep gone) st then same = refl
-held_same (at.ConsolidatorKeep job parent keep gone) st then same = refl
-held_same (at.ConsolidatorDecide job parent keep gone) st then same = refl
-held_same at.Flusher st then same = refl
-
 pub held_there : (d : DiskModel) (c : RunningCore) (m : Machine) (actor : ℕ) → IsActor actor → HasCome m actor d c → latches_held c.store (m.activity actor) ≡ latches_held m.store (m.activity actor)
-held_there d c m actor may come = held_same (m.activity actor) m.store c.store (looked_stays m actor may come.may.goes_on.kept _ c.store come.brings)
+held_there d c m actor may come = latches_come m _ c.store come.brings come.may.goes_on.kept.latches_fit actor
 
 pub holds_alike : (d : DiskModel) (c : RunningCore) (m n : Machine) (actor : ℕ) → IsActor actor → HasCome m actor d c → HasCome n actor d c
     → pages_of (latches_held m.store (m.activity actor)) ≡ pages_of (latches_held n.store (n.activity actor))

@@ -1,11 +1,5 @@
 -- Who begins with a job holds no page.
-use Rattle.std.proofs.Common.{◌≡◌, inl, inr, ℕ, [], ap}
-use Rattle.hb_activity.specs.declared.activities.Activity.{Activity}
-use Rattle.hb_activity.specs.declared.jobs.Job.{Job}
-use Rattle.hb_consol.specs.ConsolidatorRows.{IsMergingOf}
-use Rattle.hb_poster.specs.PosterRows.{IsPostingOf}
-use Rattle.hb_store.specs.States.{StoreState}
-use Rattle.hb_core.specs.Performing.{latches_held}
+use Rattle.hb_core.proofs.Running.Names.{◌≡◌, inl, inr, ℕ, [], ap, Activity, Job, IsMergingOf, IsPostingOf, StoreState, latches_held}
 
 module _ (st : StoreState) (job : Job) (height : ℕ) (next : Activity) where
   pub posting_free : IsPostingOf job height next → latches_held st next ≡ []

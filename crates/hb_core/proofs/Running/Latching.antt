@@ -1,9 +1,7 @@
 -- How few latches an actor holds while it takes another one.
-use Rattle.std.proofs.Common.{◌≡◌, ℕ, ◌<◌, ◌+◌, ◌==◌, cond, None, ap, ◌∙◌, arith}
+use Rattle.hb_core.proofs.Running.Names.{◌≡◌, ℕ, ◌<◌, ◌+◌, ◌==◌, cond, None, ap, ◌∙◌, arith, Mode, LatchTable, mode_at, at_itself}
 use Rattle.std.specs.FinMap as map
-use Rattle.hb_latch.specs.declared.modes.Mode.{Mode}
-use Rattle.hb_latch.specs.Tables.{LatchTable, latches_of, mode_at}
-use Rattle.hb_lemmas.proofs.Booleans.{at_itself}
+use Rattle.hb_latch.specs.Tables.{latches_of}
 
 pub few_again : (old released taken : LatchTable) (actor page : ℕ) (mode : Mode)
     → ((table : LatchTable) (actor page other : ℕ) (mode : Mode) → mode_at table actor page ≡ None → latches_of (map.insert table (actor, page) mode) other ≡ latches_of table other + cond (actor == other) 1 0)

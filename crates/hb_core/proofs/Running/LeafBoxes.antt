@@ -1,23 +1,13 @@
 -- The box of a leaf of a page: how many attributes it has, and that it is there.
-use Rattle.std.proofs.Common.{◌≡◌, ℕ, zero, suc, ◌==◌, true, false, cond, List, [], ◌∷◌, length, Option, Some, None, IsSome, IfSome, IsTrue, refl, ap, ◌∙◌, arith}
+use Rattle.hb_core.proofs.Running.Names.{◌≡◌, ℕ, zero, suc, ◌==◌, true, false, cond, List, [], ◌∷◌, length, Option, Some, None, IsSome, IfSome, IsTrue, refl, ap, ◌∙◌, arith, option_and_then, option_map, All-contains, All-weaker, Area, Leaf, Records, Child, Sibling, LivePage, Placed, first_named, siblings_of, at_itself, place_member, names_child, AskedBox, around_box, box_by_leaf, box_of_child, box_of_place, box_of_sibling, this_box, if_value}
 use Rattle.std.specs.List.{All, Contains, slice_get}
-use Rattle.std.specs.Option.{option_and_then, option_map}
-use Rattle.std.proofs.lemmas.List.Elements.{All-contains, All-weaker}
-use Rattle.hb_space.specs.Boxes.{Area}
 use Rattle.hb_frag.proofs.Facts.Tiles.{tiles_attributes}
-use Rattle.hb_frag.specs.declared.leaves.Leaf.{Leaf}
-use Rattle.hb_frag.specs.declared.leaves.Leaf.TheVariants.{Records, Child, Sibling}
-use Rattle.hb_frag.specs.declared.pages.LivePage.{LivePage}
-use Rattle.hb_frag.specs.Leaves.{Placed, first_named, leaves, leaves_of, siblings_of}
-use Rattle.hb_lemmas.proofs.Booleans.{at_itself}
-use Rattle.hb_lemmas.proofs.Lists.{place_member}
+use Rattle.hb_frag.specs.Leaves.{leaves, leaves_of}
 use Rattle.hb_ops.proofs.Facts.PlacedLaws.{placed, sibling_is_leaf}
-use Rattle.hb_consol.specs.ConsolidatorRows.{names_child}
-use Rattle.hb_core.proofs.Files.AskedPages.{first_box_among, named_with_box, leaf_of_place, first_child_among}
-use Rattle.hb_core.specs.declared.asking.BoxTest.{BoxTest}
-use Rattle.hb_core.specs.declared.asking.BoxTest.TheVariants.{Around}
-use Rattle.hb_core.specs.Asking.{AskedBox, around_box, box_by_leaf, box_of_child, box_of_place, box_of_sibling, first_child_box, this_box}
-use Rattle.hb_lemmas.proofs.Options.{if_value}
+use Rattle.hb_steps.proofs.Files.AskedPages.{first_box_among, named_with_box, leaf_of_place, first_child_among}
+use Rattle.hb_steps.specs.declared.asked_boxes.BoxTest.{BoxTest}
+use Rattle.hb_steps.specs.declared.asked_boxes.BoxTest.TheVariants.{Around}
+use Rattle.hb_steps.specs.Asking.{first_child_box}
 
 -- ---- how many attributes it has
 

@@ -1,22 +1,15 @@
 -- A row of the consolidator that holds of what its decider was given holds of what the machine shows.
-use Rattle.std.proofs.Common.{◌≡◌, inl, inr, ℕ, ◌+◌, ◌<◌, ◌∷◌, Option, Some, None, refl, ap, ◌∙◌, subst}
-use Rattle.hb_frag.specs.declared.pages.LivePage.{LivePage}
-use Rattle.hb_frag.specs.Leaves.{first_named, siblings_of}
+use Rattle.hb_core.proofs.Running.Names.{◌≡◌, inl, inr, ℕ, ◌+◌, ◌<◌, ◌∷◌, Option, Some, None, refl, ap, ◌∙◌, subst, LivePage, first_named, siblings_of, Meta, Area, Job, Activity, Deed, Sight, ConsolidatorRow}
 use Rattle.hb_frag.specs.Rules.{capacity_of}
-use Rattle.hb_layout.specs.declared.meta.Meta.{Meta}
 use Rattle.hb_ops.specs.declared.operations.Op.TheVariants as ops
 use Rattle.hb_ops.specs.Merging.{parent_page}
-use Rattle.hb_space.specs.Boxes.{Area}
 use Rattle.hb_terms.specs.declared.merging.MergePlan.{MergePlan}
 use Rattle.hb_terms.specs.declared.merging.MergePlan.TheVariants as plans
 use Rattle.hb_terms.specs.Merging.{IsMergePlan}
-use Rattle.hb_activity.specs.declared.jobs.Job.{Job}
-use Rattle.hb_activity.specs.declared.activities.Activity.{Activity}
 use Rattle.hb_activity.specs.declared.activities.Activity.TheVariants as at
-use Rattle.hb_activity.specs.Deeds.{Deed, does}
-use Rattle.hb_activity.specs.Sights.{Sight}
+use Rattle.hb_activity.specs.Deeds.{does}
 use Rattle.hb_consol.specs.ConsolidatorRows.{HasMergePlan, after_try, children_of, first_one, one_behind, pair_from, scans, tries}
-use Rattle.hb_consol.specs.MergeRows.{ConsolidatorRow, DoesMerge, after_keep, merges_above}
+use Rattle.hb_consol.specs.MergeRows.{DoesMerge, after_keep, merges_above}
 use Rattle.hb_core.proofs.Running.LiftedRows.{IsSeenIn}
 use Rattle.hb_core.specs.Moving.{placed}
 

@@ -1,37 +1,25 @@
 -- A row that holds of what a decider was given holds of what the machine shows.
-use Rattle.std.proofs.Common.{◌≡◌, ◌⊎◌, inl, inr, ℕ, ◌<◌, ◌≤◌, List, [], ◌∷◌, ◌++◌, filter, Option, Some, None, MatchOption, refl, sym, ap, ◌∙◌, subst}
-use Rattle.hb_search.specs.SearchRows.{Gathers, SearchGoesOn}
-use Rattle.hb_search.specs.Searching.{SearchRow}
-use Rattle.hb_space.specs.Boxes.{Area, common_area, holds, pieces_outside}
-use Rattle.hb_space.specs.declared.records.Record.{Record}
+use Rattle.hb_core.proofs.Running.Names.{◌≡◌, ◌⊎◌, inl, inr, ℕ, ◌<◌, ◌≤◌, List, [], ◌∷◌, ◌++◌, filter, Option, Some, None, refl, sym, ap, ◌∙◌, subst, Gathers, SearchRow, Area, Record, LivePage, HEIGHT_MAX, Meta, Command, Insert, Delete, Lookup, Search, Line, PostPlan, Job, Activity, Deed, PassesOn, Sight, goal_of, PointRow, WantsBoxes, DoesPlan, GrowsFile, GrowsNot, MayGrow, PosterRow, placed_at}
+use Rattle.std.proofs.Common.{MatchOption}
+use Rattle.hb_search.specs.SearchRows.{SearchGoesOn}
+use Rattle.hb_space.specs.Boxes.{common_area, holds, pieces_outside}
 use Rattle.hb_frag.specs.declared.paths.Side.{Side}
-use Rattle.hb_frag.specs.declared.pages.LivePage.{LivePage}
 use Rattle.hb_frag.specs.Leaves.{weight_of}
 use Rattle.hb_ops.specs.Recording.{put_page}
-use Rattle.hb_layout.specs.declared.limits.TheConstants.{HEIGHT_MAX}
-use Rattle.hb_layout.specs.declared.meta.Meta.{Meta}
 use Rattle.hb_ops.specs.declared.leaf_cuts.LeafCut.{LeafCut}
 use Rattle.hb_ops.specs.declared.operations.Op.TheVariants.{Del}
 use Rattle.hb_set.specs.declared.commands.Reply.TheVariants as replies
-use Rattle.hb_set.specs.declared.commands.Command.{Command}
-use Rattle.hb_set.specs.declared.commands.Command.TheVariants.{Insert, Delete, Lookup, Search}
-use Rattle.hb_set.specs.declared.scripts.Line.{Line}
-use Rattle.hb_terms.specs.declared.plans.PostPlan.{PostPlan}
 use Rattle.hb_terms.specs.declared.plans.PostPlan.TheVariants as plans
 use Rattle.hb_terms.specs.Plans.{IsPlan}
-use Rattle.hb_activity.specs.declared.jobs.Job.{Job}
-use Rattle.hb_activity.specs.declared.activities.Activity.{Activity}
 use Rattle.hb_activity.specs.declared.activities.Activity.TheVariants as at
-use Rattle.hb_activity.specs.Deeds.{Deed, moves_to, takes_effect}
-use Rattle.hb_activity.specs.Passing.{PartLeavesTo, PassesOn, posts_owed}
-use Rattle.hb_activity.specs.Sights.{Sight}
-use Rattle.hb_activity.specs.Walks.{goal_of}
-use Rattle.hb_point.specs.SessionRows.{PointRow, DoesThere, WantsBoxes, merges_due}
+use Rattle.hb_activity.specs.Deeds.{moves_to, takes_effect}
+use Rattle.hb_activity.specs.Passing.{PartLeavesTo, posts_owed}
+use Rattle.hb_point.specs.SessionRows.{DoesThere, merges_due}
 use Rattle.hb_point.specs.SplitRows.{PutsInHalf, SplitsOrFull}
-use Rattle.hb_poster.specs.PosterRows.{Arrives, DoesPlan, GrowsFile, GrowsNot, MayGrow, PosterPasses, PosterRow, after_look}
+use Rattle.hb_poster.specs.PosterRows.{Arrives, PosterPasses, after_look}
 use Rattle.hb_split.specs.Choosing.{IsChosen}
-use Rattle.hb_core.specs.Moving.{placed, placed_at}
-use Rattle.hb_core.specs.Rows.{DoesHere}
+use Rattle.hb_core.specs.Moving.{placed}
+use Rattle.hb_steps.specs.Rows.{DoesHere}
 
 -- One sight shows no other marks, pages and numbers than another one. Of the order's length it knows nothing.
 pub record IsSeenIn (t s : Sight) : Type 0 where

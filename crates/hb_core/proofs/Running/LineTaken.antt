@@ -1,47 +1,16 @@
 -- An idle session of a core takes a line, or the poster takes a job, as a step of the machine that it shows.
-use Rattle.std.proofs.Common.{◌≡◌, ◌≢◌, inl, inr, ℕ, ◌≤◌, ◌+◌, ◌-◌, ◌==◌, Bool, cond, List, [], length, take, drop, slice_get, slice_set, All, Option, Some, None, refl, sym, ap, ◌∙◌, subst, arith, append-nil, ◌++◌, ◌∷◌}
+use Rattle.hb_core.proofs.Running.Names.{◌≡◌, ◌≢◌, inl, inr, ℕ, ◌≤◌, ◌+◌, ◌-◌, ◌==◌, Bool, cond, List, [], length, take, drop, slice_set, Option, Some, None, refl, sym, ap, ◌∙◌, subst, arith, append-nil, ◌++◌, ◌∷◌, AnyPage, brings_none, table_follows, cases_Bool, eq-eqb, eqb-false, eqb-true, length-set, same_Some, slice_get_within, Activity, Job, Merge, Post, Sessions, class_of, lock_of_command, Deed, answers_now, takes_job, DiskModel, IsActor, get-set_same, get-set_other, at_other, if_same, at_itself, Op, boxes_ahead, next_line, IsMergingOf, IsPostingOf, AreRising, Answered, Line, Use, StoreKeeps, StoreState, Outcome, StaysSo, class_for, Machine, with_activity, with_disk, with_uses, DoesDeed, KeepsFilesBy, with_standing, MayDo, Performs, latches_held, HasTurn, RunningCore, ShowsMachine, number_in_hand, StepsAs, IsNextLine, RefusesLine, TakesLine, TakesNextLine, TakesNextMerging, TakesNextPosting, pages_of, MayStep, with_memory}
+use Rattle.std.proofs.Common.{slice_get, All}
 use Rattle.std.specs.Prelude.{MatchOption}
-use Rattle.std.proofs.lemmas.Bool.{cases_Bool, eq-eqb, eqb-false, eqb-true}
-use Rattle.std.proofs.lemmas.List.{length-set}
-use Rattle.std.proofs.lemmas.Option.{same_Some, slice_get_within}
-use Rattle.hb_activity.specs.declared.activities.Activity.{Activity}
 use Rattle.hb_activity.specs.declared.activities.Activity.TheVariants as at
-use Rattle.hb_activity.specs.declared.jobs.Job.{Job}
-use Rattle.hb_activity.specs.declared.jobs.JobKind.TheVariants.{Merge, Post}
-use Rattle.hb_activity.specs.Classes.{Sessions, class_of}
-use Rattle.hb_activity.specs.BoxLocks.{lock_of_command}
-use Rattle.hb_activity.specs.Deeds.{Deed, answers_now, takes_job}
-use Rattle.hb_disk.specs.Model.{DiskModel}
-use Rattle.hb_latch.specs.Tables.{LatchTable, mode_at}
-use Rattle.hb_space.specs.Actors.{IsActor}
-use Rattle.hb_space.proofs.Facts.Lists.{get-set_same, get-set_other}
-use Rattle.hb_lemmas.proofs.Booleans.{at_other, if_same}
-use Rattle.hb_ops.specs.declared.operations.Op.{Op}
-use Rattle.hb_point.specs.SessionRows.{boxes_ahead, next_line, taking}
-use Rattle.hb_consol.specs.ConsolidatorRows.{IsMergingOf}
-use Rattle.hb_poster.specs.PosterRows.{IsPostingOf}
-use Rattle.hb_set.specs.Order.{AreRising}
+use Rattle.hb_point.specs.SessionRows.{taking}
 use Rattle.hb_set.specs.declared.commands.Reply.TheVariants as replies
-use Rattle.hb_set.specs.declared.scripts.Answered.{Answered}
-use Rattle.hb_set.specs.declared.scripts.Line.{Line}
-use Rattle.hb_pool.specs.Frames.{Use}
-use Rattle.hb_store.specs.Keeps.{StoreKeeps}
-use Rattle.hb_store.specs.States.{StoreState}
-use Rattle.hb_core.specs.declared.outcomes.Outcome.{Outcome}
-use Rattle.hb_core.specs.declared.outcomes.Outcome.TheVariants as outcomes
-use Rattle.hb_core.specs.Forcing.{StaysSo}
-use Rattle.hb_core.specs.KeptFits.{class_for}
-use Rattle.hb_core.specs.Machines.{Machine, with_activity, with_disk, with_uses}
-use Rattle.hb_core.specs.Moving.{DoesDeed, KeepsFilesBy, with_standing}
-use Rattle.hb_core.specs.Performing.{MayDo, Performs, PerformsAsItIs, Relatches, latches_held, mode_among}
-use Rattle.hb_core.specs.Showing.{HasTurn, RunningCore, ShowsMachine, number_in_hand}
-use Rattle.hb_core.specs.Steps.{BeginsLine, StepsAs, TakesJobToMerge, TakesPosting}
-use Rattle.hb_core.specs.Taking.{IsNextLine, RefusesLine, TakesLine, TakesNextLine, TakesNextMerging, TakesNextPosting}
-use Rattle.hb_core.specs.Using.{pages_of}
-use Rattle.hb_core.specs.Working.{MayStep, with_memory}
-use Rattle.hb_core.proofs.Facts.NextLines.{next_is}
+use Rattle.hb_steps.specs.declared.outcomes.Outcome.TheVariants as outcomes
+use Rattle.hb_steps.specs.Performing.{PerformsAsItIs}
+use Rattle.hb_steps.specs.Steps.{BeginsLine, TakesJobToMerge, TakesPosting}
+use Rattle.hb_steps.proofs.Facts.NextLines.{next_is}
 use Rattle.hb_core.proofs.Running.AgainstPlaces.{box_in_the_way, has_box_free}
-use Rattle.hb_core.proofs.Running.DeedShows.{deed_shows}
+use Rattle.hb_core.proofs.Running.DeedShows.{deed_shows, nothing_moves}
 use Rattle.hb_core.proofs.Running.Frames.{shown_stays}
 use Rattle.hb_core.proofs.Running.LinesAhead.{next_ahead, none_ahead, turn_at_end, turn_with}
 use Rattle.hb_core.proofs.Running.NumbersInHand.{NumberFate, job_number, merging_job_number}
@@ -70,7 +39,6 @@ taken c m actor line = record {
   lines = m.lines;
   answered = m.answered;
   activity = with_activity actor (at.SessionWalk line None (boxes_ahead line.command) []) m.activity;
-  latches = c.latches;
   jobs = m.jobs;
   order = m.order;
   stop = m.stop;
@@ -160,7 +128,6 @@ module _ (d : DiskModel) (c after : RunningCore) (m : Machine) (actor behind : �
       lines = refl;
       answered = sym (append-nil m.answered);
       activity = λ other. refl;
-      latches = subst (λ (t : LatchTable). Relatches actor [] t after.latches) (sym step.shows.latches) takes.latches;
       jobs = record { left = m.jobs; takes = refl; adds = refl };
       order = sym (append-nil m.order);
       stop = refl;
@@ -203,7 +170,8 @@ module _ (d : DiskModel) (c after : RunningCore) (m : Machine) (actor behind : �
           ∙ stand_then c.activities m.activity actor (m.activity actor) walk may (length-set c.activities (actor - 1) (m.activity actor) ∙ step.shows.all_actors)
           (shows_but d c m actor may step.shows).activities other its;
       nobody_else = λ other none. at_other other actor walk (m.activity other) (λ same. none (subst IsActor (sym same) may)) ∙ step.shows.nobody_else other none;
-      latches = refl;
+      latches = table_follows m step.goes_on.kept.latches_fit (taken after m actor line) actor walk c.latches after.latches step.shows.latches takes.latches (at_itself actor walk (m.activity actor))
+          (λ other off. at_other other actor walk (m.activity other) off) (λ other off id mode page holds stands. stands);
       jobs = step.shows.jobs ∙ sym (of_core (λ s. s.jobs));
       order = step.shows.order ∙ sym (of_core (λ s. s.order));
       stop = step.shows.stop ∙ sym (of_core (λ s. s.stop));
@@ -224,9 +192,6 @@ module _ (d : DiskModel) (c after : RunningCore) (m : Machine) (actor behind : �
     rising : AreRising m.lines
     rising = step.goes_on.kept.lines_in_sequence.rising
 
-    holds_none : (page : ℕ) → mode_at m.latches actor page ≡ None
-    holds_none page = step.goes_on.kept.latches_fit.exact actor page may ∙ ap (λ (a : Activity). mode_among page (latches_held m.store a)) idle
-
     still_idle : (other : ℕ) → m.activity other ≡ with_activity actor at.SessionIdle m.activity other
     still_idle other = if_same other actor (λ b. m.activity other ≡ cond b at.SessionIdle (m.activity other)) (λ same. ap m.activity same ∙ idle) (λ off. refl)
 
@@ -236,7 +201,6 @@ module _ (d : DiskModel) (c after : RunningCore) (m : Machine) (actor behind : �
       lines = refl;
       answered = refl;
       activity = still_idle;
-      latches = record { own = holds_none; others = λ other page off. refl };
       jobs = record { left = m.jobs; takes = refl; adds = refl };
       order = sym (append-nil m.order);
       stop = refl;
@@ -332,7 +296,7 @@ module _ (d : DiskModel) (c after : RunningCore) (m : Machine) (actor : ℕ) (ma
       → (new : Machine) × PerformsAsItIs m actor deed outcome new × ShowsMachine d after new
   deed_done deed outcome pins held none fate does =
       subst (λ (s : StoreState). (new : Machine) × ((p : Performs m s actor deed outcome new) × (p.came ≡ m.uses) × (p.pins ≡ pages_of (latches_held m.store (m.activity actor)))) × ShowsMachine d after new) (sym step.shows.store)
-      (let done = deed_shows d c after m actor deed outcome may (shows_pages d c m actor may step.shows) pins does (shown_stays d c m step) step.goes_on.kept.lines_in_sequence fate
+      (let brings = brings_none m AnyPage c.store step.shows.store in let done = deed_shows d c after m actor deed outcome may (shows_pages d c m actor may step.shows) pins does (shown_stays d c m step) AnyPage step.goes_on.kept.latches_fit brings (nothing_moves m AnyPage c.store deed actor outcome _ brings none) step.goes_on.kept.lines_in_sequence fate
       (keeps_none d c.store after.store (length c.order) deed.op none does.store) in
       (done.0, (done.1.0, done.1.1 ∙ sym step.shows.uses, done.1.2 ∙ held), done.2))
 

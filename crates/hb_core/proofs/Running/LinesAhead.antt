@@ -1,16 +1,12 @@
 -- The next line of a session, and its turn once that is taken.
-use Rattle.std.proofs.Common.{◌≡◌, ◌≢◌, ◌⊎◌, inl, inr, ℕ, zero, suc, ◌<◌, ◌≤◌, ◌+◌, ◌==◌, ◌&&◌, not, Bool, true, false, cond, List, [], ◌∷◌, ◌++◌, length, take, drop, slice_get, All, Some, None, refl, sym, ap, ◌∙◌, subst, arith, length-append}
-use Rattle.std.proofs.lemmas.Bool.{eq-eqb, eqb-true, false≢true, false_from_ne_true}
-use Rattle.std.proofs.lemmas.List.{append_assoc, drop_all, drop_at, length-take-le, take-append-drop, take_all, take_at}
-use Rattle.std.proofs.lemmas.List.Elements.{All-append, All-contains, All-head, All-tail, All-weaker}
-use Rattle.std.proofs.lemmas.Option.{slice_get_within}
-use Rattle.hb_lemmas.proofs.Lists.{All-alone, All-behind, each_member}
-use Rattle.hb_set.specs.declared.scripts.Answered.{Answered}
-use Rattle.hb_set.specs.declared.scripts.Line.{Line}
-use Rattle.hb_core.proofs.Facts.NextLines.{above_all}
+use Rattle.hb_core.proofs.Running.Names.{◌≡◌, ◌≢◌, ◌⊎◌, inl, inr, ℕ, zero, suc, ◌<◌, ◌≤◌, ◌+◌, ◌==◌, ◌&&◌, not, Bool, true, false, cond, List, [], ◌∷◌, ◌++◌, length, take, drop, Some, None, refl, sym, ap, ◌∙◌, subst, arith, eq-eqb, eqb-true, false≢true, take-append-drop, take_all, All-contains, All-head, All-weaker, slice_get_within, each_member, Answered, Line, is_answered, next_line, AreRising}
+use Rattle.std.proofs.Common.{slice_get, All, length-append}
+use Rattle.std.proofs.lemmas.Bool.{false_from_ne_true}
+use Rattle.std.proofs.lemmas.List.{append_assoc, drop_all, drop_at, length-take-le, take_at}
+use Rattle.std.proofs.lemmas.List.Elements.{All-append, All-tail}
+use Rattle.hb_lemmas.proofs.Lists.{All-alone, All-behind}
+use Rattle.hb_steps.proofs.Facts.NextLines.{above_all}
 use Rattle.hb_core.proofs.Running.TurnsAfter.{Dealt, ToCome, TurnAt}
-use Rattle.hb_point.specs.SessionRows.{is_answered, next_line}
-use Rattle.hb_set.specs.Order.{AreRising}
 
 -- ---- what the next line is
 

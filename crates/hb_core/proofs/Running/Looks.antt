@@ -1,36 +1,14 @@
 -- The page into which an actor's next step looks is in memory, as it was before other pages came, and can be looked into.
-use Rattle.std.proofs.Common.{◌≡◌, inl, inr, ℕ, List, Option, Some, None, IfSome, IsSome, refl, sym, ap, ◌∙◌, subst}
-use Rattle.std.specs.Option.{option_and_then}
-use Rattle.std.proofs.lemmas.Bool.{false≢true}
-use Rattle.std.proofs.lemmas.Option.{same_Some}
-use Rattle.hb_frag.specs.declared.leaves.Leaf.TheVariants.{Child}
-use Rattle.hb_frag.specs.declared.pages.LivePage.{LivePage}
-use Rattle.hb_frag.specs.declared.pages.Page.TheVariants.{Live}
-use Rattle.hb_latch.specs.declared.modes.Mode.{Mode}
-use Rattle.hb_space.specs.Actors.{IsActor}
-use Rattle.hb_layout.specs.declared.meta.Meta.{Meta}
+use Rattle.hb_core.proofs.Running.Names.{◌≡◌, inl, inr, ℕ, List, Option, Some, None, IfSome, IsSome, refl, sym, ap, ◌∙◌, subst, option_and_then, false≢true, same_Some, Child, LivePage, Live, Mode, IsActor, Meta, live_so, if_live, Holds, Job, Activity, LeadsBelow, walk_held, walk_point, HasLeafAt, wanted_of, IsGoodPage, StoreState, in_memory, looked_live, wanted_by, Brings, MachineKeeps, AtParent, NamesKnown, PairHeld, merging_at, MayLook, wanted_in, Machine, live_here, latches_held, mode_among}
+use Rattle.hb_steps.proofs.Memory.BroughtPages.{held_come}
+use Rattle.hb_steps.proofs.Latches.SameLatches.{live_held}
 use Rattle.hb_ops.proofs.Facts.Tips.{first_held}
-use Rattle.hb_ops.proofs.Facts.PageNumberLaws.{live_so}
-use Rattle.hb_ops.specs.Files.{if_live}
-use Rattle.hb_space.specs.Boxes.{Holds}
-use Rattle.hb_activity.specs.declared.jobs.Job.{Job}
-use Rattle.hb_activity.specs.declared.activities.Activity.{Activity}
 use Rattle.hb_activity.specs.declared.activities.Activity.TheVariants as at
-use Rattle.hb_activity.specs.Passing.{LeadsBelow}
-use Rattle.hb_activity.specs.Walks.{walk_held, walk_point}
-use Rattle.hb_activity.specs.Wanting.{CanLook, HasLeafAt, LooksIntoPage, looked_at, wanted_of}
-use Rattle.hb_store.specs.States.{IsGoodPage, StoreState, in_memory}
-use Rattle.hb_core.proofs.Latches.LatchesStay.{walk_latched}
-use Rattle.hb_core.proofs.Memory.BroughtPages.{still_held}
-use Rattle.hb_core.proofs.Walks.MergesKept.{named_again, place_latched, known_at}
-use Rattle.hb_core.proofs.Walks.WalksKept.{IsAtParent, parent_latched}
-use Rattle.hb_core.specs.Asking.{looked_live, looked_page, wanted_by}
-use Rattle.hb_core.specs.Fetching.{Brings}
-use Rattle.hb_core.specs.KeptMachine.{MachineKeeps}
-use Rattle.hb_core.specs.KeptMerges.{AtParent, NamesKnown, PairHeld, merging_at}
-use Rattle.hb_core.specs.Looking.{MayLook, wanted_in}
-use Rattle.hb_core.specs.Machines.{Machine, live_here}
-use Rattle.hb_core.specs.Performing.{latches_held, mode_among}
+use Rattle.hb_activity.specs.Wanting.{CanLook, LooksIntoPage, looked_at}
+use Rattle.hb_steps.proofs.Latches.SameLatches.{walk_latched}
+use Rattle.hb_steps.proofs.Walks.MergesKept.{named_again, place_latched, known_at, place_stays}
+use Rattle.hb_steps.proofs.Walks.WalksKept.{IsAtParent, parent_latched}
+use Rattle.hb_steps.specs.Asking.{looked_page}
 
 -- a page in use that the actor holds, with the point at whose leaf it looks in its box
 pub record LooksInto (st : StoreState) (activity : Activity) (id : ℕ) : Type 0 where
@@ -49,7 +27,7 @@ module _ (m : Machine) (actor : ℕ) (may : IsActor actor) (keeps : MachineKeeps
       → ((page : LivePage) → IfSome (walk_point activity) (Holds page.area) → IfSome (looked_at activity) (Holds page.area)) → LooksInto m.store activity held
   walks_into activity held is walks point =
       let held_by : walk_held (m.activity actor) ≡ Some held = ap walk_held is ∙ walks in
-      let one = keeps.latches_fit.walking actor held may held_by in
+      let one = keeps.latches_fit.walking actor held held_by in
       let live : live_here m.store held ≡ Some one.0 = ap if_live one.1 in
       let latch = walk_latched activity m.store held one.0 walks live in
       record {
@@ -168,7 +146,7 @@ may_look_now m actor may keeps = may_look_then m actor may keeps m.store (λ id 
 module _ (m : Machine) (actor : ℕ) (may : IsActor actor) (keeps : MachineKeeps m) (needs : ℕ → Type 0) (st : StoreState) (brings : Brings m needs st) where
   -- a page that the actor holds stays
   pub held_stays : (id : ℕ) (mode : Mode) (page : LivePage) → mode_among id (latches_held m.store (m.activity actor)) ≡ Some mode → live_here m.store id ≡ Some page → live_here st id ≡ Some page
-  held_stays id mode page among live = ap if_live (still_held m needs st brings actor id mode (Live page) (keeps.latches_fit.exact actor id may ∙ among) (live_so (in_memory m.store id) page live))
+  held_stays = live_held m actor st (held_come m needs st brings actor)
 
   pub may_look : MayLook st (m.activity actor)
   may_look = may_look_then m actor may keeps st held_stays
@@ -184,9 +162,4 @@ module _ (m : Machine) (actor : ℕ) (may : IsActor actor) (keeps : MachineKeeps
 
   -- and what a consolidator knows it knows still
   pub names_stay : IfSome (merging_at (m.activity actor)) (NamesKnown st)
-  names_stay = named_again m.store st (merging_at (m.activity actor)) (λ place at_place.
-      let latched = place_latched m.store (m.activity actor) place at_place in
-      record {
-        parent = λ page live. held_stays place.parent latched.parent.0 page latched.parent.1 live;
-        pair = λ pair is page live. let latch = latched.pair pair is in held_stays pair.keep latch.0 page latch.1 live;
-      }) (keeps.walk_in_space.merging actor)
+  names_stay = named_again m.store st (merging_at (m.activity actor)) (place_stays m actor st (held_come m needs st brings actor)) (keeps.walk_in_space.merging actor)

@@ -1,53 +1,18 @@
 -- What a decider said may be performed: its operation may be committed, its actor may stand as it says, a line that joins the order has room,
 -- and the pages that came are those that the row needs.
-use Rattle.std.proofs.Common.{◌≡◌, ◌⊎◌, inl, inr, ℕ, ◌<◌, List, length, Option, IsSome, IsTrue, IfSome, refl, sym, ap, subst, arith, ◌++◌, None, Some}
-use Rattle.std.proofs.lemmas.Bool.{false≢true}
-use Rattle.hb_disk.specs.Model.{DiskModel}
-use Rattle.hb_latch.specs.Tables.{LatchTable}
-use Rattle.hb_space.specs.Actors.{IsActor}
-use Rattle.hb_ops.specs.declared.operations.Op.{Op}
-use Rattle.hb_ops.specs.Files.{FileState}
-use Rattle.hb_set.specs.declared.scripts.Line.{Line}
-use Rattle.hb_activity.specs.declared.activities.Activity.{Activity}
+use Rattle.hb_core.proofs.Running.Names.{◌≡◌, ◌⊎◌, inl, inr, ℕ, ◌<◌, List, length, Option, IsSome, IsTrue, IfSome, refl, sym, ap, ◌∙◌, subst, arith, ◌++◌, None, Some, mode_at, HeldModes, same_held, false≢true, DiskModel, IsActor, Op, FileState, Line, Activity, Fate, Next, Empty, Hand, HasJob, HasLine, hand_of, deed_of, joined_by, Deed, StoreKeeps, StoreState, if_value, some_value, AnyPage, takes_number, wanted_by, Brings, IsFreeHead, IsWantedPage, RowsMayBeDone, Machine, with_disk, with_uses, modes, CanMovePins, page_wanted, pages_of, use_done, use_number, use_wanted, latches_held, Wanted, Use, places, HasFrameFor, IsTied, is_some, MayCommit, MayStand, joins_order, number_of, placed_at, with_standing, MayDo, Row, RunningCore, HasPages, with_memory}
 use Rattle.hb_activity.specs.declared.activities.Activity.TheVariants as at
-use Rattle.hb_activity.specs.declared.deciding.Fate.{Fate}
 use Rattle.hb_activity.specs.declared.deciding.Fate.TheVariants as fates
-use Rattle.hb_activity.specs.declared.deciding.Next.{Next}
-use Rattle.hb_activity.specs.Classes.{Empty, Hand, HasJob, HasLine, hand_of}
-use Rattle.hb_activity.specs.Deciding.{deed_of, joined_by}
-use Rattle.hb_activity.specs.Deeds.{Deed}
-use Rattle.hb_store.specs.Keeps.{StoreKeeps}
-use Rattle.hb_store.specs.States.{StoreState}
-use Rattle.hb_lemmas.proofs.Options.{if_value, some_value}
 use Rattle.hb_core.proofs.Running.Asked.{at_number, brings}
 use Rattle.hb_core.proofs.Running.Brought.{brings_wider}
 use Rattle.hb_core.proofs.Running.Commits.{made_ready, may_commit_row}
 use Rattle.hb_core.proofs.Running.OrderRoom.{joining_has_room}
 use Rattle.hb_core.proofs.Running.StandsThere.{may_stand}
 use Rattle.hb_core.proofs.Running.TakesNumbers.{takes_what_it_needs}
-use Rattle.hb_core.specs.AllowedLaws.{AnyPage}
-use Rattle.hb_core.specs.Acting.{takes_number}
-use Rattle.hb_core.specs.Asking.{wanted_by}
-use Rattle.hb_core.specs.Fetching.{Brings, IsFreeHead, IsWantedPage}
-use Rattle.hb_core.specs.MachineLaws.{RowsMayBeDone}
-use Rattle.hb_core.specs.Machines.{Machine, with_disk, with_uses}
-use Rattle.hb_core.specs.Pinning.{CanMovePins}
-use Rattle.hb_core.specs.Using.{page_wanted, pages_of, use_done, use_number, use_wanted}
-use Rattle.hb_core.specs.Performing.{latches_held}
-use Rattle.hb_activity.specs.declared.wanting.Wanted.{Wanted}
-use Rattle.hb_pool.specs.Frames.{Use}
-use Rattle.hb_pool.specs.Pools.{places}
-use Rattle.hb_store.specs.Calls.{HasFrameFor}
-use Rattle.hb_store.specs.Held.{IsTied}
-use Rattle.std.specs.Option.{is_some}
 use Rattle.hb_core.proofs.Running.Holds.{can_go_over}
 use Rattle.hb_core.proofs.Running.PlacesFor.{after_number}
 use Rattle.hb_core.proofs.Running.ReadsStay.{reads_of_op}
-use Rattle.hb_core.specs.Moving.{MayCommit, MayStand, joins_order, number_of, placed, placed_at, with_standing}
-use Rattle.hb_core.specs.Performing.{MayDo}
-use Rattle.hb_core.specs.Rows.{Row}
-use Rattle.hb_core.specs.Showing.{RunningCore}
-use Rattle.hb_core.specs.Working.{HasPages, with_memory}
+use Rattle.hb_core.specs.Moving.{placed}
 use Rattle.hb_core.proofs.Running.StandsElsewhere.{shown_length}
 
 -- a line joins the order in the code just where it does in the deed
@@ -75,11 +40,11 @@ module _ (d : DiskModel) (c : RunningCore) (m : Machine) (actor : ℕ) (free : O
   came : Brings m AnyPage c.store
   came = brings d c m actor free may has
 
-  pub stands_after : (st : StoreState) → MayDo next.op (length c.order) c.store st → MayStand actor c.latches st (placed_at (length c.order) next.then)
+  pub stands_after : (st : StoreState) → MayDo next.op (length c.order) c.store st → MayStand actor (mode_at c.latches) st (placed_at (length c.order) next.then)
   stands_after st done =
       let here = may_stand m actor c.store st deed may has.may came row_there (subst (λ (n : ℕ). MayDo next.op n c.store st) (sym (shown_length d c (with_memory c m) has.shows)) done) in
-      subst (λ (table : LatchTable). MayStand actor table st (placed_at (length c.order) next.then)) has.shows.latches
-      (subst (λ (n : ℕ). MayStand actor m.latches st (placed_at n next.then)) (shown_length d c (with_memory c m) has.shows) here)
+      subst (λ (t : HeldModes). MayStand actor t st (placed_at (length c.order) next.then)) (sym (same_held m AnyPage c.store came has.may.goes_on.kept.latches_fit) ∙ has.shows.latches)
+      (subst (λ (n : ℕ). MayStand actor (modes m) st (placed_at n next.then)) (shown_length d c (with_memory c m) has.shows) here)
 
   -- the actor has nothing in hand meanwhile
   elsewhere : (op : Op) (idle : Activity) → MayCommit d c op → MayCommit d (with_standing actor idle c) op

@@ -1,30 +1,14 @@
 -- The line that a session takes: the first of its own among those that don't lie behind it.
-use Rattle.std.proofs.Common.{◌≡◌, ◌≢◌, ℕ, ◌+◌, ◌-◌, ◌<◌, ◌==◌, Bool, List, [], take, drop, length, get_or, position, slice_get, slice_set, slice_index_or, All, Some, None, sym, ap, subst, ◌∙◌, arith}
-use Rattle.std.proofs.lemmas.Bool.{eqb-true, eqb-false}
-use Rattle.std.proofs.lemmas.List.{get_or-drop, get_or-take, length-take, take_rest}
+use Rattle.hb_core.proofs.Running.Names.{◌≡◌, ◌≢◌, ℕ, ◌+◌, ◌-◌, ◌<◌, ◌==◌, Bool, List, [], take, drop, length, get_or, slice_set, slice_index_or, Some, None, sym, ap, subst, ◌∙◌, arith, eqb-true, eqb-false, get_or-drop, get_or-take, get_or_from_slice_get, slice_get-get_or, Area, Record, Line, Activity, StandsFree, with_standing, Relatches, RunningCore, HaveBoxes, IsNextLine, NoneAgainst, RefusesLine, TakesLine, Outcome, WantsBoxes, boxes_ahead, LineFits, lock_of_command, BoxLock, place_member, behind_front, All-contains}
+use Rattle.std.proofs.Common.{position, slice_get, All}
+use Rattle.std.proofs.lemmas.List.{length-take, take_rest}
 use Rattle.std.proofs.lemmas.List.Quantifiers.{position-Some}
 use Rattle.std.proofs.lemmas.List.Sums.{fails_before_first}
-use Rattle.std.proofs.lemmas.Option.{get_or_from_slice_get, slice_get-get_or}
-use Rattle.hb_space.specs.Boxes.{Area}
-use Rattle.hb_space.specs.declared.records.Record.{Record}
-use Rattle.hb_set.specs.declared.scripts.Line.{Line}
-use Rattle.hb_activity.specs.declared.activities.Activity.{Activity}
 use Rattle.hb_activity.specs.declared.activities.Activity.TheVariants as at
-use Rattle.hb_core.specs.Moving.{StandsFree, with_standing}
-use Rattle.hb_core.specs.Performing.{Relatches}
-use Rattle.hb_core.specs.Showing.{RunningCore}
-use Rattle.hb_core.specs.Taking.{HaveBoxes, IsNextLine, NoneAgainst, RefusesLine, TakesLine}
-use Rattle.hb_core.specs.declared.outcomes.Outcome.{Outcome}
-use Rattle.hb_core.specs.declared.outcomes.Outcome.TheVariants as outcomes
-use Rattle.hb_point.specs.SessionRows.{WantsBoxes, boxes_ahead}
+use Rattle.hb_steps.specs.declared.outcomes.Outcome.TheVariants as outcomes
 use Rattle.hb_set.specs.declared.commands.Reply.TheVariants as replies
-use Rattle.hb_core.specs.KeptFits.{LineFits}
-use Rattle.hb_core.proofs.Machines.LocksKept.{command_box}
-use Rattle.hb_activity.specs.BoxLocks.{lock_of_command}
+use Rattle.hb_steps.proofs.Machines.LocksKept.{command_box}
 use Rattle.hb_activity.proofs.Facts.NoPlace.{none_before}
-use Rattle.hb_boxlock.specs.declared.locks.BoxLock.{BoxLock}
-use Rattle.hb_lemmas.proofs.Lists.{place_member, behind_front}
-use Rattle.std.proofs.lemmas.List.Elements.{All-contains}
 
 abbrev is_of : ℕ → Line → Bool
 is_of actor line = line.session == actor

@@ -1,64 +1,25 @@
 -- The number of a page that a row makes, and the first page of the free chain, which comes for it.
-use Rattle.std.proofs.Common.{◌≡◌, ◌≢◌, ◌⊎◌, inl, inr, ℕ, ◌+◌, ◌<◌, ◌≤◌, ◌==◌, Bool, true, false, cond, nat_lt, ◌||◌, List, Option, Some, None, Ok, Err, IfSome, IsSome, IsTrue, refl, sym, ap, ◌∙◌, subst, arith}
-use Rattle.std.proofs.lemmas.Bool.{cases_Bool, eqb-true, eqb-false, false≢true, lt-ltb}
+use Rattle.hb_core.proofs.Running.Names.{◌≡◌, ◌≢◌, ◌⊎◌, inl, inr, ℕ, ◌+◌, ◌<◌, ◌≤◌, ◌==◌, Bool, true, false, cond, ◌||◌, List, Option, Some, None, Ok, Err, IfSome, IsSome, IsTrue, refl, sym, ap, ◌∙◌, subst, arith, cases_Bool, eqb-true, eqb-false, false≢true, ReadsOnly-neither, ReadsOnly, DiskModel, LivePage, Live, IsActor, HEIGHT_MAX, Meta, at_value, if_value, some_value, nat_cmp, FileState, if_live, last_of, page_of, IsSound, LacksRoom, Job, Wanted, Activity, MayGrow, Breaks, FetchesNot, IsNoPage, LooksUp, IsCrowdedOut, MayFetch, use_numbered, StoreKeeps, IsMemory, StoreState, in_memory, FetchStop, Why, Rule, Level, Extent, with_order_of_use, with_store, GivesUp, Stops, pinned_more, brings_none, same_held, HeldModes, may_commit, Decodes, LacksNeeded, MayNeed, NeedsNumber, AskedBox, asked_box, box_at, looked_live, wanted_by, whole_box, Brings, IsFreeHead, IsWantedPage, MustStay, Files, Machine, current_file, live_here, next_of, sight, with_disk, with_uses, IsAtHand, RunningCore, ShowsMachine, IsHaltOf, IsReadHalt, use_wanted, HasCome, HasPages, HaltsPinned, IsHalt, with_memory, Halt, Page, Use, places, StaysHere, use_fetched, IsTied, HasSoundFile}
+use Rattle.std.proofs.Common.{nat_lt}
+use Rattle.std.proofs.lemmas.Bool.{lt-ltb}
 use Rattle.std.specs.Result.{IsErrOf}
-use Rattle.hb_disk.proofs.Facts.FaultLaws.{ReadsOnly-both, ReadsOnly-neither}
-use Rattle.hb_disk.specs.Calls.{ReadsOnly}
-use Rattle.hb_disk.specs.Model.{DiskModel}
-use Rattle.hb_frag.specs.declared.pages.LivePage.{LivePage}
-use Rattle.hb_frag.specs.declared.pages.Page.TheVariants.{Live}
-use Rattle.hb_space.specs.Actors.{IsActor}
-use Rattle.hb_layout.specs.declared.limits.TheConstants.{HEIGHT_MAX}
-use Rattle.hb_layout.specs.declared.meta.Meta.{Meta}
-use Rattle.hb_lemmas.proofs.Options.{at_value, if_value, some_value}
+use Rattle.hb_disk.proofs.Facts.FaultLaws.{ReadsOnly-both}
 use Rattle.std.specs.FinSet as set
-use Rattle.std.specs.Ordering.{nat_cmp}
-use Rattle.hb_ops.specs.Files.{FileState, if_live, last_of, page_of}
-use Rattle.hb_ops.specs.Sound.{IsSound}
-use Rattle.hb_ops.specs.Owing.{LacksRoom}
-use Rattle.hb_activity.specs.declared.jobs.Job.{Job}
-use Rattle.hb_activity.specs.declared.wanting.Wanted.{Wanted}
-use Rattle.hb_activity.specs.declared.activities.Activity.{Activity}
 use Rattle.hb_activity.specs.declared.activities.Activity.TheVariants as at
-use Rattle.hb_poster.specs.PosterRows.{MayGrow}
-use Rattle.hb_store.specs.Fetching.{Breaks, FetchesNot, IsNoPage, LooksUp, IsNext, IsNoHead, IsCrowdedOut, MayFetch, MayUse, use_numbered}
-use Rattle.hb_store.specs.Keeps.{StoreKeeps}
-use Rattle.hb_store.specs.States.{IsMemory, StoreState, in_memory}
-use Rattle.hb_store.specs.declared.stops.FetchStop.{FetchStop}
+use Rattle.hb_store.specs.Fetching.{IsNext, IsNoHead, MayUse}
 use Rattle.hb_store.specs.declared.stops.FetchStop.TheVariants as fetches
 use Rattle.hb_store.specs.declared.stops.StopWhy.TheVariants as stops
-use Rattle.hb_store.specs.declared.stops.Why.{Why}
-use Rattle.hb_store.specs.declared.stops.Why.TheVariants.{Rule, Level, Extent}
-use Rattle.hb_core.specs.Moving.{with_order_of_use, with_store}
 use Rattle.hb_activity.specs.declared.dropping.DropWhy.TheVariants as drops
-use Rattle.hb_core.specs.declared.halts.Halt.TheVariants.{GivesUp, Stops}
-use Rattle.hb_core.proofs.Machines.PinsFollow.{pinned_more}
-use Rattle.hb_core.proofs.Running.Brought.{brings_joined, brings_none, brings_numbered, brings_wider, fetch_brings, shows_store}
+use Rattle.hb_core.proofs.Running.Brought.{brings_joined, brings_numbered, brings_wider, fetch_brings, shows_store}
 use Rattle.hb_core.proofs.Running.Frames.{must_here, wanted_here}
 use Rattle.hb_core.proofs.Running.PlacesFor.{after_wanted, is_ready}
-use Rattle.hb_activity.specs.Wanting.{may_commit}
 use Rattle.hb_core.proofs.Running.Coming.{sound_where_told, told_or_not}
 use Rattle.hb_core.proofs.Running.Looks.{looked_stays}
 use Rattle.hb_core.proofs.Running.StandsElsewhere.{shows_but}
-use Rattle.hb_core.specs.Acting.{Decodes, LacksNeeded, MayNeed, NeedsNumber}
-use Rattle.hb_core.specs.AskedBoxes.{HasItsBox}
-use Rattle.hb_core.specs.Asking.{AskedBox, asked_box, box_at, looked_live, wanted_by, whole_box}
-use Rattle.hb_core.specs.Fetching.{Brings, IsBadHead, IsFreeHead, IsWantedPage, MustStay}
-use Rattle.hb_core.specs.Machines.{Files, Machine, current_file, live_here, next_of, next_of_chain, sight, with_disk, with_uses}
-use Rattle.hb_core.specs.Rows.{IsAtHand}
-use Rattle.hb_core.specs.Showing.{RunningCore, ShowsMachine}
-use Rattle.hb_core.specs.Stopping.{IsHaltOf}
-use Rattle.hb_core.specs.Touching.{IsReadHalt}
-use Rattle.hb_core.specs.Using.{use_wanted}
-use Rattle.hb_core.specs.Working.{HasCome, HasPages, HaltsPinned, IsHalt, with_memory}
-use Rattle.hb_core.specs.declared.halts.Halt.{Halt}
-use Rattle.hb_frag.specs.declared.pages.Page.{Page}
-use Rattle.hb_pool.specs.Frames.{Use}
-use Rattle.hb_pool.specs.Pools.{places}
-use Rattle.hb_store.specs.Calls.{StaysHere, use_fetched}
-use Rattle.hb_store.specs.Held.{IsTied}
-use Rattle.hb_core.specs.Keeps.{HasSoundFile}
-use Rattle.hb_core.proofs.Memory.NeededPages.{needs_room}
+use Rattle.hb_steps.specs.AskedBoxes.{HasItsBox}
+use Rattle.hb_steps.specs.Fetching.{IsBadHead}
+use Rattle.hb_steps.specs.Machines.{next_of_chain}
+use Rattle.hb_steps.proofs.Memory.NeededPages.{needs_room}
 
 -- ---- the number that the store gives is the one of the machine
 
@@ -196,7 +157,7 @@ module _ (m : Machine) (d : DiskModel) (c : RunningCore) (actor : ℕ) (come : H
   must_then id must = must_here m c.store c.uses come.may.goes_on.kept (ap (λ (s : StoreState). s.dirty) come.brings.rest) come.tied (λ q. let more = (pinned_more false m.store.meta (wanted_by m actor) m.uses c.uses come.uses come.may.goes_on.kept.frames_fit.tied.pool.distinct).pins q in omega (arith, more)) id (as_before must)
     where
       as_before : MustStay (with_memory c m) id → MustStay m id
-      as_before (inl held) = inl held
+      as_before (inl (who, mode, held)) = inl (who, mode, sym (ap (λ (t : HeldModes). t who id) (same_held m _ c.store come.brings come.may.goes_on.kept.latches_fit)) ∙ held)
       as_before (inr dirty) = inr (ap (λ (s : set.FinSet nat_cmp). set.contains s id) (sym (ap (λ (s : StoreState). s.dirty) come.brings.rest)) ∙ dirty)
 
 module _ (m : Machine) (d : DiskModel) (c : RunningCore) (actor : ℕ) (latches : IsActor actor) (come : HasCome m actor d c) (needs : NeedsNumber (m.activity actor) (wanted_by m actor) (with_memory c m))
@@ -231,10 +192,10 @@ module _ (m : Machine) (d : DiskModel) (c : RunningCore) (actor : ℕ) (latches 
   either id (inr same, some) = inr (same ∙ free_meta, λ zero. omega (arith, some, zero))
 
   joined : Brings m (λ id. IsWantedPage (wanted_by m actor) id ⊎ IsFreeHead m.store id) st
-  joined = brings_wider m _ _ st either (brings_numbered m _ st numbered (brings_joined m (IsWantedPage (wanted_by m actor)) (λ id. id ≡ c.store.meta.free) c.store st c.uses come.brings second shown_before))
+  joined = brings_wider m _ _ st either (brings_numbered m _ st numbered (brings_joined m (IsWantedPage (wanted_by m actor)) (λ id. id ≡ c.store.meta.free) come.may.goes_on.kept.latches_fit c.store st c.uses come.brings second shown_before))
 
   shown : (uses : List Use) → ShowsMachine e (with_order_of_use uses (with_store st c)) (with_uses uses then)
-  shown uses = shows_store now d e c failed st come.shows looks uses
+  shown = shows_store now d e c failed st come.shows looks (same_held m _ st joined come.may.goes_on.kept.latches_fit ∙ sym (same_held m _ c.store come.brings come.may.goes_on.kept.latches_fit))
 
   meta_then : st.meta ≡ c.store.meta
   meta_then = (ap (λ (s : StoreState). s.meta) second.rest)

@@ -1,33 +1,12 @@
 -- The number of the line that an actor has in hand, or for whose place it waits: what a deed makes of it.
-use Rattle.std.proofs.Common.{◌≡◌, ◌⊎◌, inl, inr, ℕ, List, Option, Some, None, IfSome, refl, sym, ap, ◌∙◌, subst}
+use Rattle.hb_core.proofs.Running.Names.{◌≡◌, ◌⊎◌, inl, inr, ℕ, List, Option, Some, None, IfSome, refl, sym, ap, ◌∙◌, subst, option_map, same_Some, value_and, Reply, Answered, Line, Activity, DropWhy, Job, Wanted, line_in_hand, Deed, answers_now, takes_job, LineFate, fate_row, gives_up, LinesInSequence, awaited_number, Machine, with_disk, outcome_of, Row, number_in_hand, IsWorking, next_line, IsMergingOf, IsPostingOf, StoreState}
 use Rattle.std.specs.List.{Contains}
-use Rattle.std.specs.Option.{IsSomeAnd, option_map}
-use Rattle.std.proofs.lemmas.Option.{same_Some}
-use Rattle.hb_lemmas.proofs.Options.{value_and}
-use Rattle.hb_set.specs.declared.commands.Reply.{Reply}
-use Rattle.hb_set.specs.declared.scripts.Answered.{Answered}
-use Rattle.hb_set.specs.declared.scripts.Line.{Line}
-use Rattle.hb_activity.specs.declared.activities.Activity.{Activity}
+use Rattle.std.specs.Option.{IsSomeAnd}
 use Rattle.hb_activity.specs.declared.activities.Activity.TheVariants as at
-use Rattle.hb_activity.specs.declared.dropping.DropWhy.{DropWhy}
-use Rattle.hb_activity.specs.declared.jobs.Job.{Job}
-use Rattle.hb_activity.specs.declared.wanting.Wanted.{Wanted}
-use Rattle.hb_activity.specs.Classes.{line_in_hand}
-use Rattle.hb_activity.specs.Deeds.{Answers, Deed, answers_now, takes_job}
-use Rattle.hb_core.proofs.Facts.NextLines.{next_is}
-use Rattle.hb_core.proofs.Table.LineFates.{LineFate, Waits, fate_given_up, fate_row}
-use Rattle.hb_core.proofs.Facts.StepKinds.{IsQuiet}
-use Rattle.hb_core.specs.GivingUp.{gives_up}
-use Rattle.hb_core.specs.KeptSequence.{LinesInSequence, awaited_number}
-use Rattle.hb_core.specs.Machines.{Machine, with_disk}
-use Rattle.hb_core.specs.Performing.{outcome_of}
-use Rattle.hb_core.specs.Rows.{Row}
-use Rattle.hb_core.specs.Showing.{number_in_hand}
-use Rattle.hb_core.specs.Working.{IsWorking}
-use Rattle.hb_point.specs.SessionRows.{next_line}
-use Rattle.hb_consol.specs.ConsolidatorRows.{IsMergingOf}
-use Rattle.hb_poster.specs.PosterRows.{IsPostingOf}
-use Rattle.hb_store.specs.States.{StoreState}
+use Rattle.hb_activity.specs.Deeds.{Answers}
+use Rattle.hb_steps.proofs.Facts.NextLines.{next_is}
+use Rattle.hb_steps.proofs.Table.LineFates.{Waits, fate_given_up}
+use Rattle.hb_steps.proofs.Facts.StepKinds.{IsQuiet}
 
 -- It stays in hand, and nothing is answered; or it is answered, and isn't in hand any more.
 pub record IsAnswered (activity : Activity) (deed : Deed) : Type 0 where

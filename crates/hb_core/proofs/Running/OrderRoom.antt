@@ -1,25 +1,9 @@
 -- A line that joins the order has room there: the order has no line twice, and the script has them all.
-use Rattle.std.proofs.Common.{◌≡◌, ◌≢◌, inl, inr, ℕ, zero, suc, ◌<◌, ◌≤◌, ◌∷◌, length, Option, Some, None, IsSome, refl, sym, subst, arith}
+use Rattle.hb_core.proofs.Running.Names.{◌≡◌, ◌≢◌, inl, inr, ℕ, zero, suc, ◌<◌, ◌≤◌, ◌∷◌, length, Option, Some, None, IsSome, refl, sym, subst, arith, Entry, Reply, Line, Activity, line_in_hand, Deed, next_line, StoreState, at_value, LineFate, fate_row, wanted_by, MachineKeeps, awaited_number, Machine, with_disk, Row, false≢true}
 use Rattle.std.specs.List.{All, AllPairs, Contains}
-use Rattle.hb_set.specs.Order.{Entry}
-use Rattle.hb_set.specs.declared.commands.Reply.{Reply}
-use Rattle.hb_set.specs.declared.scripts.Line.{Line}
-use Rattle.hb_activity.specs.declared.activities.Activity.{Activity}
 use Rattle.hb_activity.specs.declared.activities.Activity.TheVariants as at
-use Rattle.hb_activity.specs.Classes.{line_in_hand}
-use Rattle.hb_activity.specs.Deeds.{Deed}
-use Rattle.hb_point.specs.SessionRows.{next_line}
-use Rattle.hb_store.specs.States.{StoreState}
-use Rattle.hb_lemmas.proofs.Options.{at_value}
-use Rattle.hb_core.proofs.Facts.NextLines.{next_is}
-use Rattle.hb_core.proofs.Orders.ShortOrder.{next_not_placed, no_more_than}
-use Rattle.hb_core.proofs.Table.LineFates.{LineFate, fate_row}
-use Rattle.hb_core.specs.Asking.{wanted_by}
-use Rattle.hb_core.specs.KeptMachine.{MachineKeeps}
-use Rattle.hb_core.specs.KeptSequence.{awaited_number}
-use Rattle.hb_core.specs.Machines.{Machine, with_disk}
-use Rattle.hb_core.specs.Rows.{Row}
-use Rattle.std.proofs.lemmas.Bool.{false≢true}
+use Rattle.hb_steps.proofs.Facts.NextLines.{next_is}
+use Rattle.hb_steps.proofs.Orders.ShortOrder.{next_not_placed, no_more_than}
 
 -- whoever has a line in hand waits for no place
 none_awaited : (activity : Activity) (line : Line) → line_in_hand activity ≡ Some line → awaited_number activity ≡ None

@@ -1,25 +1,12 @@
 -- The pages that an actor has latched: the one that its walk holds is in use, and they can be unpinned.
-use Rattle.std.proofs.Common.{ℕ, Option, IsSome, sym, ap, subst}
-use Rattle.std.specs.Option.{option_and_then}
-use Rattle.hb_activity.specs.declared.activities.Activity.{Activity}
-use Rattle.hb_activity.specs.Walks.{walk_held}
-use Rattle.hb_disk.specs.Model.{DiskModel}
-use Rattle.hb_lemmas.proofs.Options.{has_value, some_value}
-use Rattle.hb_ops.specs.Files.{if_live}
-use Rattle.hb_space.specs.Actors.{IsActor}
-use Rattle.hb_store.specs.States.{StoreState}
-use Rattle.hb_core.specs.KeptMachine.{MachineKeeps}
-use Rattle.hb_core.specs.Machines.{Machine, live_here}
-use Rattle.hb_core.specs.Moving.{StandsAs}
-use Rattle.hb_core.specs.Showing.{RunningCore}
-use Rattle.hb_core.specs.Working.{MayStep}
+use Rattle.hb_core.proofs.Running.Names.{ℕ, Option, IsSome, sym, ap, subst, option_and_then, Activity, walk_held, DiskModel, has_value, some_value, if_live, IsActor, StoreState, MachineKeeps, Machine, live_here, StandsAs, RunningCore, MayStep}
 use Rattle.hb_core.proofs.Running.StandsElsewhere.{stands_as}
 
 module _ (m : Machine) (actor : ℕ) (may : IsActor actor) (keeps : MachineKeeps m) where
   pub walk_live : IsSome (walk_held (m.activity actor)) → IsSome (option_and_then (live_here m.store) (walk_held (m.activity actor)))
   walk_live walks =
       let held = some_value (walk_held (m.activity actor)) walks in
-      let there = keeps.latches_fit.walking actor held.0 may held.1 in
+      let there = keeps.latches_fit.walking actor held.0 held.1 in
       subst (λ (o : Option ℕ). IsSome (option_and_then (live_here m.store) o)) (sym held.1) (has_value (live_here m.store held.0) there.0 (ap if_live there.1))
 
 -- the same of a core that shows the machine

@@ -1,20 +1,13 @@
 -- Pages that are pinned and unpinned one after the other: which may be, what becomes of the pins, and that the frames stay those of the
 -- pages in memory.
-use Rattle.std.proofs.Common.{◌≡◌, ◌≢◌, inl, inr, ℕ, ◌+◌, ◌-◌, ◌<◌, ◌≤◌, ◌==◌, Bool, false, List, [], ◌∷◌, Option, Some, None, IsSome, refl, sym, ap, subst, ◌∙◌, arith}
-use Rattle.std.specs.Option.{IsSomeAnd, is_some, option_map, option_map_or}
-use Rattle.std.proofs.lemmas.Bool.{cases_Bool, eq-eqb, eqb-true, eqb-false}
-use Rattle.std.proofs.lemmas.Option.{same_Some}
-use Rattle.hb_lemmas.proofs.Options.{some_value, value_and}
+use Rattle.hb_core.proofs.Running.Names.{◌≡◌, ◌≢◌, inl, inr, ℕ, ◌+◌, ◌-◌, ◌<◌, ◌≤◌, ◌==◌, Bool, false, List, [], ◌∷◌, Option, Some, None, IsSome, refl, sym, ap, subst, ◌∙◌, arith, is_some, option_map, option_map_or, cases_Bool, eq-eqb, eqb-true, eqb-false, same_Some, some_value, value_and, Use, pinned, unpinned, IsPool, frame_of, in_place, put_last, IsTied, StoreState, CanMovePins, CanUnpin, pins_of, unpin_each, use_held, one_if, times}
+use Rattle.std.specs.Option.{IsSomeAnd}
 use Rattle.hb_pool.proofs.Facts.Others.{last_changed, last_no_other, place_changed, place_no_other}
 use Rattle.hb_pool.proofs.Facts.Pooled.{frame_pins, in_place_pool, put_last_pool}
-use Rattle.hb_pool.specs.Frames.{Use, pinned, unpinned}
-use Rattle.hb_pool.specs.Pools.{IsPool, frame_of, in_place, put_last}
-use Rattle.hb_store.specs.Held.{IsTied}
-use Rattle.hb_store.specs.States.{StoreState}
-use Rattle.hb_core.specs.Pinning.{CanMovePins, CanPin, CanUnpin}
-use Rattle.hb_core.specs.Using.{pin_each, pins_of, unpin_each, use_held}
-use Rattle.hb_core.proofs.Machines.PinCounts.{one_if, pinned_pins, unpinned_pins}
-use Rattle.hb_core.proofs.Machines.PinsFollow.{found_counted, times}
+use Rattle.hb_core.specs.Pinning.{CanPin}
+use Rattle.hb_steps.specs.Using.{pin_each}
+use Rattle.hb_steps.proofs.Machines.PinCounts.{pinned_pins, unpinned_pins}
+use Rattle.hb_steps.proofs.Machines.PinsFollow.{found_counted}
 
 pub one_itself : (id : ℕ) → one_if (id == id) ≡ 1
 one_itself id = ap one_if (eq-eqb id id refl)

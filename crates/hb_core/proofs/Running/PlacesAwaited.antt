@@ -1,33 +1,16 @@
 -- A session of a core that awaits its place is answered, or forces, as a step of the machine that is shown.
-use Rattle.std.proofs.Common.{◌≡◌, inl, inr, ℕ, ◌<◌, ◌≤◌, List, [], length, None, Ok, Err, refl, sym, ap, ◌∙◌, subst, append-nil}
-use Rattle.hb_activity.specs.declared.activities.Activity.{Activity}
+use Rattle.hb_core.proofs.Running.Names.{◌≡◌, inl, inr, ℕ, ◌<◌, ◌≤◌, List, [], length, None, Ok, Err, refl, sym, ap, ◌∙◌, subst, append-nil, Activity, answers_now, DiskModel, mode_at, HeldModes, IsActor, Reply, Use, WritesGroups, IsTied, StoreState, Outcome, Machine, DoesDeed, StandsAs, with_standing, with_stop, latches_held, mode_among, RunningCore, ShowsMachine, number_in_hand, AwaitsPlace, pages_of, MayStep}
 use Rattle.hb_activity.specs.declared.activities.Activity.TheVariants as at
-use Rattle.hb_activity.specs.Deeds.{answers_now}
-use Rattle.hb_disk.specs.Model.{DiskModel}
-use Rattle.hb_latch.specs.Tables.{LatchTable, mode_at}
-use Rattle.hb_space.specs.Actors.{IsActor}
-use Rattle.hb_set.specs.declared.commands.Reply.{Reply}
-use Rattle.hb_pool.specs.Frames.{Use}
-use Rattle.hb_store.specs.Forced.{WritesGroups}
-use Rattle.hb_store.specs.Held.{IsTied}
-use Rattle.hb_store.specs.States.{StoreState}
 use Rattle.hb_store.specs.declared.stops.StopWhy.TheVariants as stops
 use Rattle.hb_store.specs.declared.stops.WriteFault.{WriteFault}
 use Rattle.hb_wal.specs.Log.{mark_of}
-use Rattle.hb_core.specs.declared.outcomes.Outcome.{Outcome}
-use Rattle.hb_core.specs.declared.outcomes.Outcome.TheVariants as outcomes
-use Rattle.hb_core.specs.Machines.{Machine, settled_count}
-use Rattle.hb_core.specs.Moving.{DoesDeed, StandsAs, with_standing, with_stop}
-use Rattle.hb_core.specs.Performing.{latches_held, mode_among}
-use Rattle.hb_core.specs.Showing.{RunningCore, ShowsMachine, number_in_hand}
-use Rattle.hb_core.specs.Steps.{AwaitsPlace}
-use Rattle.hb_core.specs.Using.{pages_of}
-use Rattle.hb_core.specs.Working.{MayStep}
+use Rattle.hb_steps.specs.declared.outcomes.Outcome.TheVariants as outcomes
+use Rattle.hb_steps.specs.Machines.{settled_count}
 use Rattle.hb_core.proofs.Running.ForcedShows.{fails, forces, group_waits, with_held}
 use Rattle.hb_core.proofs.Running.LineTaken.{deed_done}
 use Rattle.hb_core.proofs.Running.NumbersInHand.{kept_number}
 use Rattle.hb_core.proofs.Running.StandsElsewhere.{stands_as}
-use Rattle.hb_core.proofs.Facts.LaterPages.{same_settled}
+use Rattle.hb_core.proofs.Facts.SettledPlaces.{same_settled}
 
 -- the machine stands as the core
 pub awaits_as : (d : DiskModel) (c : RunningCore) (m : Machine) (actor number place : ℕ) (reply : Reply) → IsActor actor → MayStep d c m → StandsAs c actor (at.SessionAwait number reply place) → m.activity actor ≡ at.SessionAwait number reply place
@@ -36,7 +19,7 @@ awaits_as d c m actor number place reply may step stands = stands_as d c m actor
 -- who awaits its place holds no latch
 no_latch : (d : DiskModel) (c : RunningCore) (m : Machine) (actor number place : ℕ) (reply : Reply) → IsActor actor → MayStep d c m → m.activity actor ≡ at.SessionAwait number reply place → (page : ℕ) → mode_at c.latches actor page ≡ None
 no_latch d c m actor number place reply may step is page =
-    ap (λ (t : LatchTable). mode_at t actor page) (sym step.shows.latches) ∙ step.goes_on.kept.latches_fit.exact actor page may ∙ ap (λ (a : Activity). mode_among page (latches_held m.store a)) is
+    ap (λ (t : HeldModes). t actor page) (sym step.shows.latches) ∙ ap (λ (a : Activity). mode_among page (latches_held m.store a)) is
 
 module _ {D : Type 0} (model : D → DiskModel) (x y : D) (c : RunningCore) (m : Machine) (actor number place settled : ℕ) (reply : Reply) (step : MayStep (model x) c m) (is_settled : settled ≡ mark_of c.store.log.groups (length c.order)) where
   pub await_answered : (after : RunningCore) (outcome : Outcome) → IsActor actor → m.activity actor ≡ at.SessionAwait number reply place → place < settled → outcome ≡ outcomes.Answered number reply → after ≡ with_standing actor at.SessionIdle c → y ≡ x

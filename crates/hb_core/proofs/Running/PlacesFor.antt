@@ -1,24 +1,12 @@
 -- A step that may change the file has places for its pages: what came for it takes one at most.
-use Rattle.std.proofs.Common.{◌≡◌, inl, inr, ℕ, ◌+◌, ◌-◌, ◌<◌, ◌≤◌, ◌==◌, ◌||◌, Bool, true, false, List, cond, Option, Some, None, IsTrue, refl, arith}
-use Rattle.std.specs.Option.{is_some}
-use Rattle.std.proofs.lemmas.Bool.{cases_lt}
-use Rattle.hb_lemmas.proofs.Options.{value_and}
+use Rattle.hb_core.proofs.Running.Names.{◌≡◌, inl, inr, ℕ, ◌+◌, ◌-◌, ◌<◌, ◌≤◌, ◌==◌, ◌||◌, Bool, true, false, List, cond, Option, Some, None, IsTrue, refl, arith, is_some, cases_lt, value_and, Wanted, Meta, Use, pinned, IsPool, frame_of, places, put_last, GROUP, PENDING, use_fetched, pending_bytes, room_of, one_if, MachineKeeps, Machine, IsUnready, may_change_file, use_number, use_wanted}
 use Rattle.hb_lemmas.proofs.Booleans.{one_at_most}
-use Rattle.hb_activity.specs.declared.wanting.Wanted.{Wanted}
-use Rattle.hb_layout.specs.declared.meta.Meta.{Meta}
 use Rattle.hb_pool.proofs.Facts.Pooled.{brought_counts, brought_pool, last_counts}
-use Rattle.hb_pool.specs.Frames.{Use, must_stay, pinned}
-use Rattle.hb_pool.specs.Pools.{IsPool, brought, frame_of, places, put_last}
-use Rattle.hb_space.specs.declared.form.TheConstants.{GROUP, PENDING}
-use Rattle.hb_store.specs.Calls.{use_fetched}
-use Rattle.hb_wal.specs.Log.{pending_bytes, room_of}
-use Rattle.hb_core.proofs.Machines.PinCounts.{one_if}
+use Rattle.hb_pool.specs.Frames.{must_stay}
+use Rattle.hb_pool.specs.Pools.{brought}
 use Rattle.hb_core.proofs.Running.Frames.{may_pin}
 use Rattle.hb_core.proofs.Running.Pins.{pinned_pool}
-use Rattle.hb_core.specs.KeptMachine.{MachineKeeps}
-use Rattle.hb_core.specs.Machines.{Machine}
-use Rattle.hb_core.specs.Steps.{IsUnready, MayChange, may_change_file}
-use Rattle.hb_core.specs.Using.{use_number, use_wanted}
+use Rattle.hb_steps.specs.Steps.{MayChange}
 
 -- a pool with so many places at least
 pub record HasAtLeast (least : ℕ) (uses : List Use) : Type 0 where

@@ -1,43 +1,11 @@
 -- What the decider of the poster says of the number of a page is what the machine's row needs.
-use Rattle.std.proofs.Common.{◌≡◌, ◌⊎◌, ◌↔◌, inl, inr, ℕ, ◌<◌, Bool, [], Option, Some, None, IsSome, IsTrue, refl, sym, ap, ◌∙◌, subst}
-use Rattle.std.specs.Option.{IsSomeAnd, option_and_then}
-use Rattle.std.proofs.lemmas.Option.{same_Some}
-use Rattle.hb_disk.specs.Model.{DiskModel}
-use Rattle.hb_frag.specs.declared.pages.LivePage.{LivePage}
-use Rattle.hb_frag.specs.Leaves.{Placed}
-use Rattle.hb_latch.specs.declared.modes.Mode.TheVariants.{Shared}
-use Rattle.hb_space.specs.Actors.{IsActor}
-use Rattle.hb_layout.specs.declared.meta.Meta.{Meta}
-use Rattle.hb_layout.specs.declared.limits.TheConstants.{HEIGHT_MAX}
-use Rattle.hb_lemmas.proofs.Options.{at_value, has_value, some_value}
-use Rattle.hb_activity.specs.declared.jobs.Job.{Job}
-use Rattle.hb_activity.specs.declared.wanting.Wanted.{Wanted}
-use Rattle.hb_activity.specs.declared.activities.Activity.{Activity}
+use Rattle.hb_core.proofs.Running.Names.{◌≡◌, ◌⊎◌, ◌↔◌, inl, inr, ℕ, ◌<◌, Bool, [], Option, Some, None, IsSome, IsTrue, refl, sym, ap, ◌∙◌, subst, option_and_then, same_Some, DiskModel, LivePage, Placed, Shared, IsActor, Meta, HEIGHT_MAX, at_value, has_value, some_value, Job, Wanted, Activity, given_sight, LeadsBelow, Sight, in_mode, named_child, wanted_of, MakesPage, MayBeAsked, MayGrow, LacksRoom, fetched_fits, children_may_be_asked, Decodes, NeedsNumber, AnyPage, looked_live, wanted_by, Brings, IsWantedPage, number_of_row, other_page, Machine, live_here, sight, with_disk, StandsAs, IsAtHand, RunningCore, HasCome, with_memory, StoreState}
+use Rattle.std.specs.Option.{IsSomeAnd}
 use Rattle.hb_activity.specs.declared.activities.Activity.TheVariants as at
-use Rattle.hb_activity.specs.Deciding.{given_sight}
-use Rattle.hb_activity.specs.Passing.{LeadsBelow}
-use Rattle.hb_activity.specs.Sights.{Sight}
-use Rattle.hb_activity.specs.Wanting.{in_mode, named_child, wanted_of}
-use Rattle.hb_poster.specs.Asks.{MakesPage, MayBeAsked}
-use Rattle.hb_poster.specs.PosterRows.{MayGrow}
-use Rattle.hb_ops.specs.Owing.{LacksRoom}
-use Rattle.hb_core.proofs.Facts.StillThere.{fetched_fits}
 use Rattle.hb_core.proofs.Running.Brought.{brings_wider}
 use Rattle.hb_core.proofs.Running.StandsElsewhere.{stands_as}
-use Rattle.hb_core.proofs.Walks.MayBeAsked.{children_may_be_asked}
-use Rattle.hb_core.specs.Acting.{Decodes, NeedsNumber}
-use Rattle.hb_core.specs.AskingDeciders.{AsksNumber, MakesPageAt}
-use Rattle.hb_core.specs.AllowedLaws.{AnyPage}
-use Rattle.hb_core.specs.AskedLaws.{AsksWithParent}
-use Rattle.hb_core.specs.Asking.{looked_live, wanted_by}
-use Rattle.hb_core.specs.Fetching.{Brings, IsWantedPage}
-use Rattle.hb_core.specs.Looking.{number_of_row, other_page}
-use Rattle.hb_core.specs.Machines.{Machine, live_here, sight, with_disk}
-use Rattle.hb_core.specs.Moving.{StandsAs}
-use Rattle.hb_core.specs.Rows.{IsAtHand}
-use Rattle.hb_core.specs.Showing.{RunningCore}
-use Rattle.hb_core.specs.Working.{HasCome, with_memory}
-use Rattle.hb_store.specs.States.{StoreState}
+use Rattle.hb_steps.specs.AskingDeciders.{AsksNumber, MakesPageAt}
+use Rattle.hb_steps.specs.AskedLaws.{AsksWithParent}
 
 -- the poster makes a page: for a level, or to split a parent
 abbrev pub MayMakeToPost : Activity → Type 0

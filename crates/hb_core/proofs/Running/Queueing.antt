@@ -1,12 +1,11 @@
 -- The jobs that a core lets wait.
-use Rattle.std.proofs.Common.{◌≡◌, ◌⊎◌, inl, inr, ◌↔◌, ℕ, ◌<◌, ◌≤◌, ◌==◌, Bool, true, false, IsTrue, List, [], ◌∷◌, ◌++◌, take, drop, length, Contains, slice_index_or, refl, ap, subst, ◌∙◌, arith}
+use Rattle.hb_core.proofs.Running.Names.{◌≡◌, ◌⊎◌, inl, inr, ◌↔◌, ℕ, ◌<◌, ◌≤◌, ◌==◌, Bool, true, false, IsTrue, List, [], ◌∷◌, ◌++◌, take, drop, length, slice_index_or, refl, ap, subst, ◌∙◌, arith, cases_lt, false≢true, Job, Post, Merge, AddsJobs}
+use Rattle.std.proofs.Common.{Contains}
 use Rattle.std.specs.Bool.{OnFalse}
-use Rattle.std.proofs.lemmas.Bool.{cases_lt, false≢true, cases_eq}
-use Rattle.hb_activity.specs.declared.jobs.Job.{Job}
+use Rattle.std.proofs.lemmas.Bool.{cases_eq}
 use Rattle.hb_activity.specs.declared.jobs.JobKind.{JobKind}
-use Rattle.hb_activity.specs.declared.jobs.JobKind.TheVariants.{Post, Merge}
 use Rattle.hb_activity.specs.declared.waiting_jobs.TheConstants.{JOBS}
-use Rattle.hb_activity.specs.Queue.{AddsJob, AddsJobs}
+use Rattle.hb_activity.specs.Queue.{AddsJob}
 use Rattle.hb_lemmas.proofs.Lists.{first_member, later_member, member_cases, no_member}
 use Rattle.hb_lemmas.proofs.Decisions.{Known, both, known_list}
 

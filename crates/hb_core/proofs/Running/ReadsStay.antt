@@ -1,34 +1,11 @@
 -- The pages that the operation of a row reads stay: the actor has latched them, or it is the wanted page, which is pinned for the step.
-use Rattle.std.proofs.Common.{◌≡◌, ◌⊎◌, inl, inr, ℕ, ◌==◌, ◌||◌, Bool, false, cond, Option, Some, None, IsTrue, refl, sym, ap, subst, ◌∙◌, arith}
-use Rattle.std.specs.Option.{is_some}
-use Rattle.std.proofs.lemmas.Bool.{cases_Bool, eqb-true, false≢true}
-use Rattle.hb_disk.specs.Model.{DiskModel}
-use Rattle.hb_activity.specs.declared.wanting.Wanted.{Wanted}
-use Rattle.hb_activity.specs.declared.activities.Activity.{Activity}
+use Rattle.hb_core.proofs.Running.Names.{◌≡◌, ◌⊎◌, inl, inr, ℕ, ◌==◌, ◌||◌, Bool, false, cond, Option, Some, None, IsTrue, refl, sym, ap, subst, ◌∙◌, arith, is_some, cases_Bool, eqb-true, false≢true, DiskModel, Wanted, Activity, Deed, Mode, Exclusive, at_itself, Op, IsActor, StaysHere, PinsMore, pinned_more, each_op, each_row, wanted_by, MustStay, Machine, sight, latches_held, mode_among, Row, RunningCore, page_wanted, HasPages, with_memory, StoreState}
 use Rattle.hb_activity.specs.declared.activities.Activity.TheVariants as at
-use Rattle.hb_activity.specs.Deeds.{Deed}
-use Rattle.hb_latch.specs.declared.modes.Mode.{Mode}
-use Rattle.hb_latch.specs.declared.modes.Mode.TheVariants.{Exclusive}
-use Rattle.hb_lemmas.proofs.Booleans.{at_itself}
 use Rattle.hb_ops.specs.Operations.{reads_of}
-use Rattle.hb_ops.specs.declared.operations.Op.{Op}
-use Rattle.hb_space.specs.Actors.{IsActor}
-use Rattle.hb_store.specs.Calls.{StaysHere}
 use Rattle.hb_store.specs.Replay.{is_among}
-use Rattle.hb_core.proofs.Files.PairAtHand.{decides_page}
-use Rattle.hb_core.proofs.Machines.PinsFollow.{PinsMore, pinned_more}
-use Rattle.hb_core.proofs.Memory.OwnedOps.{second_mode}
+use Rattle.hb_steps.proofs.Files.PairAtHand.{decides_page}
+use Rattle.hb_steps.proofs.Memory.OwnedOps.{second_mode}
 use Rattle.hb_core.proofs.Running.Frames.{must_here, wanted_here}
-use Rattle.hb_core.proofs.Facts.EachRow.{each_op, each_row}
-use Rattle.hb_core.specs.Asking.{wanted_by}
-use Rattle.hb_core.specs.Fetching.{MustStay}
-use Rattle.hb_core.specs.Machines.{Machine, sight}
-use Rattle.hb_core.specs.Performing.{latches_held, mode_among}
-use Rattle.hb_core.specs.Rows.{Row}
-use Rattle.hb_core.specs.Showing.{RunningCore}
-use Rattle.hb_core.specs.Using.{page_wanted}
-use Rattle.hb_core.specs.Working.{HasPages, with_memory}
-use Rattle.hb_store.specs.States.{StoreState}
 
 module _ (m : Machine) (d : DiskModel) (c : RunningCore) (actor : ℕ) (free : Option (ℕ × ℕ)) (may : IsActor actor) (has : HasPages m actor free d c) where
   -- what is pinned then
@@ -41,7 +18,7 @@ module _ (m : Machine) (d : DiskModel) (c : RunningCore) (actor : ℕ) (free : O
   pub held_stays : (id : ℕ) (mode : Mode) → mode_among id (latches_held m.store (m.activity actor)) ≡ Some mode → StaysHere c.uses id
   held_stays id mode is =
       must_here m c.store c.uses has.may.goes_on.kept (ap (λ (s : StoreState). s.dirty) has.brings.rest) has.tied (λ q. let more = pinned_so.pins q in omega (arith, more)) id
-      (inl (actor, mode, has.may.goes_on.kept.latches_fit.exact actor id may ∙ is))
+      (inl (actor, mode, is))
 
   abbrev ReadsStay : Option Op → Type 0
   ReadsStay None = Unit {0}

@@ -1,35 +1,11 @@
 -- A row for which a core has its pages is done, or memory is refused to it.
-use Rattle.std.proofs.Common.{◌≡◌, ◌⊎◌, inl, inr, ℕ, suc, zero, ◌-◌, ◌++◌, arith, true, false, Bool, List, [], ◌∷◌, length, slice_set, Option, Some, None, IsSome, refl, sym, ap, ◌∙◌, subst}
-use Rattle.std.specs.Option.{MatchOption, is_some}
-use Rattle.std.proofs.lemmas.Bool.{cases_Bool}
-use Rattle.hb_activity.specs.declared.activities.Activity.{Activity}
+use Rattle.hb_core.proofs.Running.Names.{◌≡◌, ◌⊎◌, inl, inr, ℕ, suc, zero, ◌-◌, ◌++◌, arith, true, false, Bool, List, [], ◌∷◌, length, slice_set, Option, Some, None, IsSome, refl, sym, ap, ◌∙◌, subst, is_some, cases_Bool, Activity, Wanted, hand_of, idle_of, Next, deed_of, Deed, DiskModel, IsActor, Use, use_numbered, IsTied, Halt, GivesUp, Outcome, Decodes, DoesRow, MayNeed, NeedsNumber, takes_number, wanted_by, Brings, IsFreeHead, IsWantedPage, class_for, Machine, next_of, with_disk, with_uses, DoesDeed, KeepsFilesBy, number_of, with_order_of_use, with_standing, latches_held, CanUnpin, Row, RunningCore, ShowsMachine, CameFor, page_wanted, pages_of, unpin_each, use_number, use_wanted, Halts, HaltsPinned, HasCome, HasPages, ShowsBut, with_memory, PinsMore, more_number, MachineKeeps}
+use Rattle.hb_steps.proofs.Memory.OwnPages.{row_held}
+use Rattle.std.specs.Option.{MatchOption}
 use Rattle.hb_activity.specs.declared.activities.Activity.TheVariants as at
 use Rattle.hb_activity.specs.declared.dropping.DropWhy.TheVariants as drops
-use Rattle.hb_activity.specs.declared.wanting.Wanted.{Wanted}
-use Rattle.hb_activity.specs.Classes.{hand_of, idle_of}
-use Rattle.hb_activity.specs.declared.deciding.Next.{Next}
-use Rattle.hb_activity.specs.Deciding.{deed_of}
-use Rattle.hb_activity.specs.Deeds.{Deed}
-use Rattle.hb_disk.specs.Model.{DiskModel}
-use Rattle.hb_space.specs.Actors.{IsActor}
-use Rattle.hb_pool.specs.Frames.{Use}
-use Rattle.hb_store.specs.Fetching.{use_numbered}
-use Rattle.hb_store.specs.Held.{IsTied}
-use Rattle.hb_core.specs.declared.halts.Halt.{Halt}
-use Rattle.hb_core.specs.declared.halts.Halt.TheVariants.{GivesUp}
-use Rattle.hb_core.specs.declared.outcomes.Outcome.{Outcome}
-use Rattle.hb_core.specs.Acting.{Decodes, DoesRow, GivesUpFor, MayNeed, NeedsNumber, takes_number}
-use Rattle.hb_core.specs.Asking.{wanted_by}
-use Rattle.hb_core.specs.Fetching.{Brings, IsFreeHead, IsWantedPage}
-use Rattle.hb_core.specs.KeptFits.{class_for}
-use Rattle.hb_core.specs.Machines.{Machine, next_of, with_disk, with_uses}
-use Rattle.hb_core.specs.Moving.{DoesDeed, KeepsFilesBy, number_of, placed, with_order_of_use, with_standing}
-use Rattle.hb_core.specs.Performing.{latches_held}
-use Rattle.hb_core.specs.Pinning.{CanUnpin}
-use Rattle.hb_core.specs.Rows.{Row}
-use Rattle.hb_core.specs.Showing.{RunningCore, ShowsMachine}
-use Rattle.hb_core.specs.Using.{CameFor, page_wanted, pages_of, unpin_each, use_number, use_wanted}
-use Rattle.hb_core.specs.Working.{Halts, HaltsPinned, HasCome, HasPages, ShowsBut, with_memory}
+use Rattle.hb_steps.specs.Acting.{GivesUpFor}
+use Rattle.hb_core.specs.Moving.{placed}
 use Rattle.hb_core.proofs.Running.Brought.{brings_wider}
 use Rattle.hb_core.proofs.Running.MayPerform.{brings_as_row, row_there}
 use Rattle.hb_core.proofs.Running.DeedShows.{deed_shows}
@@ -37,8 +13,6 @@ use Rattle.hb_core.proofs.Running.ForcedShows.{shown_with}
 use Rattle.hb_core.proofs.Running.NumbersInHand.{row_number}
 use Rattle.hb_core.proofs.Running.Numbered.{decodes_as}
 use Rattle.hb_core.proofs.Running.Pins.{can_unpin, tied_unpinned}
-use Rattle.hb_core.proofs.Machines.PinsFollow.{PinsMore, more_number}
-use Rattle.hb_core.specs.KeptMachine.{MachineKeeps}
 use Rattle.hb_core.proofs.Running.ReadsStay.{must_stays}
 use Rattle.hb_core.proofs.Running.StandsElsewhere.{shows_but, stands_as}
 use Rattle.hb_core.proofs.Running.TakesNumbers.{needs_what_it_takes, takes_what_it_needs}
@@ -50,7 +24,7 @@ set_twice (z ∷ xs) (suc n) x y = ap (λ (l : List _). z ∷ l) (set_twice xs n
 
 -- a core shows a machine with another order of use, where it has that
 pub shows_with : (d : DiskModel) (c : RunningCore) (uses : List Use) (n : Machine) → ShowsMachine d c n → ShowsMachine d (with_order_of_use uses c) (with_uses uses n)
-shows_with d c uses n shows = shown_with d d c c.store uses n shows n.store uses n.files n.clock shows.store refl (λ told. let s = shows.tells told in record { files = s.files; told = s.told; kept = s.kept; clock = s.clock }) shows.silent
+shows_with d c uses n shows = shown_with d d c c.store uses n shows n.store uses n.files n.clock refl shows.store refl (λ told. let s = shows.tells told in record { files = s.files; told = s.told; kept = s.kept; clock = s.clock }) shows.silent
 
 -- a number that is given is one that the row needs
 needed : (N : Type 0) (given : ℕ × ℕ → Type 0) (free : Option (ℕ × ℕ)) → MatchOption free (¬ N) (λ next. N × given next) → IsSome free → N
@@ -154,7 +128,8 @@ module _ (d : DiskModel) (c : RunningCore) (m : Machine) (actor : ℕ) (free : O
     pub row_done : (pins : List ℕ) (outcome : Outcome) (after : RunningCore) → pins ≡ page_wanted (wanted_by m actor) ++ pages_of (latches_held m.store (m.activity actor)) → DoesDeed actor pins deed outcome idled after
         → KeepsFilesBy next.op d c.store d after.store → (new : Machine) × DoesRow m actor outcome new × ShowsMachine d after new
     row_done pins outcome after pinned does keeps =
-        let done = deed_shows d idled after m actor deed outcome may shows_idled pins does (must_stays m d c actor free may pages) pages.may.goes_on.kept.lines_in_sequence
+        let done = deed_shows d idled after m actor deed outcome may shows_idled pins does (must_stays m d c actor free may pages) _ pages.may.goes_on.kept.latches_fit pages.brings
+        (row_held m actor _ c.store may pages.may.goes_on.kept.latches_fit pages.may.goes_on.kept.pages_of_file pages.may.free pages.brings deed (row_there d c m actor free may pages next row) outcome _) pages.may.goes_on.kept.lines_in_sequence
         (row_number m c.store (m.activity actor) (wanted_by m actor) deed pages.may.working (row_there d c m actor free may pages next row)) keeps in (
           done.0,
           record {

@@ -1,34 +1,8 @@
 -- What a core performs by its decider's answer is the row of the machine that it shows.
-use Rattle.std.proofs.Common.{◌≡◌, ℕ, ◌<◌, ◌^◌, ◌++◌, List, length, arith, Option, IsSome, IfSome, IfOk, Result, Ok, Err, sym, ap, ◌∙◌, subst}
-use Rattle.hb_activity.specs.declared.activities.Activity.{Activity}
-use Rattle.hb_activity.specs.declared.wanting.Wanted.{Wanted}
-use Rattle.hb_activity.specs.declared.deciding.Next.{Next}
+use Rattle.hb_core.proofs.Running.Names.{◌≡◌, ℕ, ◌<◌, ◌++◌, List, length, arith, Option, IsSome, IfSome, IfOk, Result, Ok, Err, sym, ap, ◌∙◌, subst, mode_at, Activity, Wanted, Next, hand_of, idle_of, deed_of, DiskModel, IsActor, FileState, Line, StoreKeeps, StoreState, Halt, GivesUp, Outcome, Decodes, DoesRow, latches_held, CanMovePins, page_wanted, pages_of, use_done, IsTied, wanted_by, class_for, RowsMayBeDone, Machine, DoesDeed, KeepsFilesBy, MayCommit, MayStand, joins_order, number_of, placed_at, with_standing, MayDo, Row, RunningCore, ShowsMachine, HaltsPinned, HasPages, with_memory}
+use Rattle.std.proofs.Common.{◌^◌}
 use Rattle.hb_activity.specs.declared.dropping.DropWhy.TheVariants as drops
-use Rattle.hb_activity.specs.Classes.{hand_of, idle_of}
-use Rattle.hb_activity.specs.Deciding.{deed_of}
-use Rattle.hb_disk.specs.Model.{DiskModel}
-use Rattle.hb_space.specs.Actors.{IsActor}
-use Rattle.hb_ops.specs.Files.{FileState}
-use Rattle.hb_set.specs.declared.scripts.Line.{Line}
-use Rattle.hb_store.specs.Keeps.{StoreKeeps}
-use Rattle.hb_store.specs.States.{StoreState}
-use Rattle.hb_core.specs.declared.halts.Halt.{Halt}
-use Rattle.hb_core.specs.declared.halts.Halt.TheVariants.{GivesUp}
-use Rattle.hb_core.specs.declared.outcomes.Outcome.{Outcome}
-use Rattle.hb_core.specs.Acting.{Decodes, DoesRow}
-use Rattle.hb_core.specs.Performing.{latches_held}
-use Rattle.hb_core.specs.Pinning.{CanMovePins}
-use Rattle.hb_core.specs.Using.{page_wanted, pages_of, use_done}
-use Rattle.hb_store.specs.Held.{IsTied}
-use Rattle.hb_core.specs.Asking.{wanted_by}
-use Rattle.hb_core.specs.KeptFits.{class_for}
-use Rattle.hb_core.specs.MachineLaws.{RowsMayBeDone}
-use Rattle.hb_core.specs.Machines.{Machine}
-use Rattle.hb_core.specs.Moving.{DoesDeed, KeepsFilesBy, MayCommit, MayStand, joins_order, number_of, placed, placed_at, with_standing}
-use Rattle.hb_core.specs.Performing.{MayDo}
-use Rattle.hb_core.specs.Rows.{Row}
-use Rattle.hb_core.specs.Showing.{RunningCore, ShowsMachine}
-use Rattle.hb_core.specs.Working.{HaltsPinned, HasPages, with_memory}
+use Rattle.hb_core.specs.Moving.{placed}
 use Rattle.hb_core.proofs.Running.MayPerform.{has_room, hold_after, may_commit_then, stands_after}
 use Rattle.hb_core.proofs.Running.RowsDone.{op_refused, row_done, row_refused}
 use Rattle.hb_core.proofs.Running.StandsElsewhere.{shown_length}
@@ -71,8 +45,8 @@ module _ {D : Type 0} (model : D → DiskModel) (x y : D) (c between : RunningCo
         (subst (λ (k : D). OneDurable (model k) c.store) same (subst (λ (s : RunningCore). OneDurable (model y) s.store) rest one_durable))
         (subst (λ (k : D). OneLater (model k) c.store) same (subst (λ (s : RunningCore). OneLater (model y) s.store) rest one_later))))
 
-    pub row_may_stand : (st : StoreState) → MayDo next.op (length between.order) between.store st → MayStand actor between.latches st (placed_at (length between.order) next.then)
-    row_may_stand = subst (λ (s : RunningCore). (st : StoreState) → MayDo next.op (length s.order) s.store st → MayStand actor s.latches st (placed_at (length s.order) next.then)) (sym rest)
+    pub row_may_stand : (st : StoreState) → MayDo next.op (length between.order) between.store st → MayStand actor (mode_at between.latches) st (placed_at (length between.order) next.then)
+    row_may_stand = subst (λ (s : RunningCore). (st : StoreState) → MayDo next.op (length s.order) s.store st → MayStand actor (mode_at s.latches) st (placed_at (length s.order) next.then)) (sym rest)
         (stands_after (model x) c m actor free may pages next row)
 
     -- its pins can go over

@@ -1,28 +1,13 @@
 -- What a decider was given is what the core shows: its answer is a row of the table, at the place that comes next.
-use Rattle.std.proofs.Common.{◌≡◌, inl, inr, ℕ, ◌==◌, Bool, cond, List, [], ◌∷◌, Option, Some, None, sym, ap, ◌∙◌, subst}
+use Rattle.hb_core.proofs.Running.Names.{◌≡◌, inl, inr, ℕ, ◌==◌, Bool, cond, List, [], ◌∷◌, Option, Some, None, sym, ap, ◌∙◌, subst, option_and_then, cases_Bool, eqb-true, LivePage, Meta, Activity, FitsFree, given_pages, given_sight, Deed, ConsolidatorRow, PointRow, MakesPage, PosterRow, SearchRow, StoreState, same_Some, none-some, AsksPoint, AsksPoster, HasPointRow, HasPosterRow, HasSearchRow, sight_in, other_page, HasMergerRow, second_page, live_here, next_of}
 use Rattle.std.specs.List.{AllByRecursion}
-use Rattle.std.specs.Option.{option_and_then}
-use Rattle.std.proofs.lemmas.Bool.{cases_Bool, eqb-true}
-use Rattle.hb_frag.specs.declared.pages.LivePage.{LivePage}
-use Rattle.hb_layout.specs.declared.meta.Meta.{Meta}
-use Rattle.hb_activity.specs.declared.activities.Activity.{Activity}
 use Rattle.hb_activity.specs.declared.activities.Activity.TheVariants as at
-use Rattle.hb_activity.specs.Deciding.{FitsFree, given_pages, given_sight, page_among}
-use Rattle.hb_activity.specs.Deeds.{Deed}
+use Rattle.hb_activity.specs.Deciding.{page_among}
 use Rattle.hb_consol.specs.Asks.{pages_given}
-use Rattle.hb_consol.specs.MergeRows.{ConsolidatorRow}
-use Rattle.hb_point.specs.SessionRows.{PointRow}
-use Rattle.hb_poster.specs.Asks.{MakesPage}
-use Rattle.hb_poster.specs.PosterRows.{PosterRow}
-use Rattle.hb_search.specs.Searching.{SearchRow}
-use Rattle.hb_store.specs.States.{StoreState}
-use Rattle.std.proofs.lemmas.Option.{same_Some, none-some}
 use Rattle.hb_core.proofs.Running.LiftedMerges.{lifted_merger}
 use Rattle.hb_core.proofs.Running.LiftedRows.{IsSeenIn, lifted_point, lifted_poster, lifted_search}
-use Rattle.hb_core.specs.AskingDeciders.{AsksPoint, AsksPoster, HasPointRow, HasPosterRow, HasSearchRow, sight_in}
-use Rattle.hb_core.specs.Looking.{other_number, other_page}
-use Rattle.hb_core.specs.LookingToMerge.{HasMergerRow, second_number, second_page}
-use Rattle.hb_core.specs.Machines.{live_here, next_of}
+use Rattle.hb_steps.specs.Looking.{other_number}
+use Rattle.hb_steps.specs.LookingToMerge.{second_number}
 use Rattle.hb_core.specs.Moving.{placed}
 
 -- ---- the given pages are those of the core

@@ -1,26 +1,9 @@
 -- What is said of a session's walk at a page that is read where its bytes lie is a row of it.
-use Rattle.std.proofs.Common.{◌≡◌, ◌⊎◌, inl, ℕ, List, Option, Some, None, MatchOption, refl, sym, subst}
-use Rattle.hb_frag.specs.declared.pages.LivePage.{LivePage}
-use Rattle.hb_frag.specs.declared.pages.Page.{Page}
-use Rattle.hb_frag.specs.declared.pages.Page.TheVariants.{Live, Free}
-use Rattle.hb_layout.specs.declared.meta.Meta.{Meta}
-use Rattle.hb_ops.specs.Files.{if_live}
-use Rattle.hb_view.specs.Views.{IsLiveAnd}
-use Rattle.hb_activity.specs.declared.activities.Activity.{Activity}
+use Rattle.hb_core.proofs.Running.Names.{◌≡◌, ◌⊎◌, inl, ℕ, List, Option, Some, None, refl, sym, subst, LivePage, Page, Live, Free, Meta, if_live, IsLiveAnd, Activity, Next, deed_of, given_pages, given_sight, Deed, PassesOn, goal_of, walk_point, PointRow, Gathers, SearchRow, StoreState, AsksPoint, AsksSearcher, HasPointRow, HasSearchRow, other_page, live_here}
+use Rattle.std.proofs.Common.{MatchOption}
 use Rattle.hb_activity.specs.declared.activities.Activity.TheVariants as at
-use Rattle.hb_activity.specs.declared.deciding.Next.{Next}
-use Rattle.hb_activity.specs.Deciding.{deed_of, given_pages, given_sight}
-use Rattle.hb_activity.specs.Deeds.{Deed}
-use Rattle.hb_activity.specs.Passing.{PassesOn}
-use Rattle.hb_activity.specs.Walks.{IsSessionWalk, goal_of, walk_holding, walk_point}
-use Rattle.hb_point.specs.SessionRows.{PointRow}
-use Rattle.hb_search.specs.SearchRows.{Gathers}
-use Rattle.hb_search.specs.Searching.{SearchRow}
-use Rattle.hb_store.specs.States.{StoreState}
+use Rattle.hb_activity.specs.Walks.{IsSessionWalk, walk_holding}
 use Rattle.hb_core.proofs.Running.SeenRows.{no_number, point_said, search_said}
-use Rattle.hb_core.specs.AskingDeciders.{AsksPoint, AsksSearcher, HasPointRow, HasSearchRow}
-use Rattle.hb_core.specs.Looking.{other_page}
-use Rattle.hb_core.specs.Machines.{live_here}
 use Rattle.hb_core.specs.Moving.{placed}
 
 -- ---- a search

@@ -1,15 +1,6 @@
 -- Where the actors of a core stand, once one of them stands elsewhere.
-use Rattle.std.proofs.Common.{◌≡◌, ◌≢◌, ℕ, zero, suc, ◌<◌, ◌-◌, cond, List, [], ◌∷◌, length, slice_get, slice_set, Some, refl, sym, ap, ◌∙◌, subst, arith}
-use Rattle.std.proofs.lemmas.List.{length-map, length-set}
-use Rattle.hb_activity.specs.declared.activities.Activity.{Activity}
-use Rattle.hb_disk.specs.Model.{DiskModel}
-use Rattle.hb_lemmas.proofs.Booleans.{if_same}
-use Rattle.hb_set.specs.Order.{Entry}
-use Rattle.hb_space.specs.Actors.{IsActor}
-use Rattle.hb_space.proofs.Facts.Lists.{get-set_same, get-set_other}
-use Rattle.hb_core.specs.Machines.{Machine, with_activity}
-use Rattle.hb_core.specs.Moving.{StandsAs, with_standing}
-use Rattle.hb_core.specs.Showing.{RunningCore, ShowsMachine}
+use Rattle.hb_core.proofs.Running.Names.{◌≡◌, ◌≢◌, ℕ, zero, suc, ◌<◌, ◌-◌, cond, List, [], ◌∷◌, length, slice_set, Some, refl, sym, ap, ◌∙◌, subst, arith, length-map, length-set, Activity, DiskModel, if_same, Entry, IsActor, get-set_same, get-set_other, Machine, with_activity, StandsAs, with_standing, RunningCore, ShowsMachine}
+use Rattle.std.proofs.Common.{slice_get}
 
 -- what stands there already stands there
 pub set_as_it_was : {X : Type 0} (xs : List X) (n : ℕ) (x : X) → slice_get xs n ≡ Some x → slice_set xs n x ≡ xs

@@ -1,24 +1,12 @@
 -- What a call of a core's step does by where the actor stands is a step of the machine that is shown.
-use Rattle.std.proofs.Common.{◌≡◌, ℕ, ◌<◌, ◌≤◌, ◌-◌, List, length, slice_get, Option, Some, None, refl, sym, ap, ◌∙◌, subst, arith}
+use Rattle.hb_core.proofs.Running.Names.{◌≡◌, ℕ, ◌<◌, ◌≤◌, ◌-◌, List, length, Option, Some, None, refl, sym, ap, ◌∙◌, subst, arith, class_of, Activity, DiskModel, IsActor, Reply, Line, StopWhy, Outcome, StaysSo, Machine, StandsAs, RunningCore, ShowsMachine, AwaitsPlace, StepsAs, Works, TakesNextLine, TakesNextMerging, TakesNextPosting, IsWorking, MayStep}
+use Rattle.std.proofs.Common.{slice_get}
 use Rattle.std.specs.Prelude.{MatchOption}
-use Rattle.hb_activity.specs.Classes.{class_of}
-use Rattle.hb_activity.specs.declared.activities.Activity.{Activity}
 use Rattle.hb_activity.specs.declared.activities.Activity.TheVariants as at
-use Rattle.hb_disk.specs.Model.{DiskModel}
-use Rattle.hb_space.specs.Actors.{IsActor}
 use Rattle.hb_lemmas.proofs.Lists.{place_within}
-use Rattle.hb_set.specs.declared.commands.Reply.{Reply}
-use Rattle.hb_set.specs.declared.scripts.Line.{Line}
-use Rattle.hb_store.specs.declared.stops.StopWhy.{StopWhy}
-use Rattle.hb_core.specs.declared.outcomes.Outcome.{Outcome}
-use Rattle.hb_core.specs.declared.outcomes.Outcome.TheVariants as outcomes
-use Rattle.hb_core.specs.Forcing.{Flushes, StaysSo}
-use Rattle.hb_core.specs.Machines.{Machine}
-use Rattle.hb_core.specs.Moving.{StandsAs}
-use Rattle.hb_core.specs.Showing.{RunningCore, ShowsMachine}
-use Rattle.hb_core.specs.Steps.{AwaitsPlace, StepsAs, StepsTo, Works}
-use Rattle.hb_core.specs.Taking.{TakesNextLine, TakesNextMerging, TakesNextPosting}
-use Rattle.hb_core.specs.Working.{IsWorking, MayStep}
+use Rattle.hb_steps.specs.declared.outcomes.Outcome.TheVariants as outcomes
+use Rattle.hb_steps.specs.Forcing.{Flushes}
+use Rattle.hb_steps.specs.Steps.{StepsTo}
 use Rattle.hb_core.proofs.Running.LineTaken.{is_session, line_taken, merging_taken, posting_taken}
 use Rattle.hb_core.proofs.Running.StandsElsewhere.{stands_as}
 

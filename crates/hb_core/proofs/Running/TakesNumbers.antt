@@ -1,23 +1,8 @@
 -- A row that needs a number takes it, and one that takes it needs it.
-use Rattle.std.proofs.Common.{◌≡◌, ◌⊎◌, inl, inr, ℕ, ◌<◌, true, Option, Some, None, refl, sym, ap, ◌∙◌, subst, arith}
-use Rattle.std.proofs.lemmas.Option.{same_Some}
-use Rattle.hb_frag.specs.declared.pages.LivePage.{LivePage}
-use Rattle.hb_terms.specs.declared.plans.PostPlan.{PostPlan}
+use Rattle.hb_core.proofs.Running.Names.{◌≡◌, ◌⊎◌, inl, inr, ℕ, ◌<◌, true, Option, Some, None, refl, sym, ap, ◌∙◌, subst, arith, same_Some, LivePage, PostPlan, LacksRoom, Job, Wanted, Activity, Deed, DoesPlan, GrowsFile, GrowsNot, MayGrow, NeedsNumber, takes_number, Machine, sight, IsAtHand, Row, each_op, each_row, Op, false≢true}
 use Rattle.hb_terms.specs.declared.plans.PostPlan.TheVariants as plans
-use Rattle.hb_ops.specs.Owing.{LacksRoom}
-use Rattle.hb_activity.specs.declared.jobs.Job.{Job}
-use Rattle.hb_activity.specs.declared.wanting.Wanted.{Wanted}
-use Rattle.hb_activity.specs.declared.activities.Activity.{Activity}
 use Rattle.hb_activity.specs.declared.activities.Activity.TheVariants as at
-use Rattle.hb_activity.specs.Deeds.{Deed}
-use Rattle.hb_poster.specs.PosterRows.{DoesPlan, GrowsFile, GrowsNot, MayGrow}
 use Rattle.hb_terms.proofs.Facts.Owing.{one_plan}
-use Rattle.hb_core.specs.Acting.{NeedsNumber, takes_number}
-use Rattle.hb_core.specs.Machines.{Machine, sight}
-use Rattle.hb_core.specs.Rows.{IsAtHand, Row}
-use Rattle.hb_core.proofs.Facts.EachRow.{each_op, each_row}
-use Rattle.hb_ops.specs.declared.operations.Op.{Op}
-use Rattle.std.proofs.lemmas.Bool.{false≢true}
 
 module _ (m : Machine) where
   taken : (deed other : Deed) → deed ≡ other → takes_number other.op ≡ true → takes_number deed.op ≡ true

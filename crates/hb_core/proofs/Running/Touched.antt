@@ -1,29 +1,12 @@
 -- What a step does to the disk: nothing, a force, a page that is written to its place, or the beginning of the log's next turn.
-use Rattle.std.proofs.Common.{◌≡◌, ◌≢◌, inl, inr, ℕ, ◌<◌, List, [], None, Some, Ok, Err, refl, sym, ap, ◌∙◌, subst}
+use Rattle.hb_core.proofs.Running.Names.{◌≡◌, ◌≢◌, inl, inr, ℕ, ◌<◌, List, [], None, Some, Ok, Err, refl, sym, ap, ◌∙◌, subst, ReadsOnly, DiskModel, ReadsOnly-neither, Reply, Use, WritesGroups, StoreHeld, oldest_dirty, SwitchesTurn, FlushesHome, WritesHome, StoreState, StopWhy, Outcome, Machine, with_stop, RunningCore, TakesNextLine, TakesNextMerging, TakesNextPosting, EndsByRead, Touches, held_in, MayStep}
 use Rattle.hb_activity.specs.declared.activities.Activity.TheVariants as at
-use Rattle.hb_disk.specs.Calls.{ReadsOnly}
-use Rattle.hb_disk.specs.Model.{DiskModel}
-use Rattle.hb_disk.proofs.Facts.FaultLaws.{ReadsOnly-neither, ReadsOnly-none}
-use Rattle.hb_set.specs.declared.commands.Reply.{Reply}
+use Rattle.hb_disk.proofs.Facts.FaultLaws.{ReadsOnly-none}
 use Rattle.hb_set.specs.declared.commands.Reply.TheVariants as replies
-use Rattle.hb_pool.specs.Frames.{Use}
-use Rattle.hb_store.specs.Forced.{WritesGroups}
-use Rattle.hb_store.specs.Held.{StoreHeld, oldest_dirty}
-use Rattle.hb_store.specs.Switching.{SwitchesTurn}
-use Rattle.hb_store.specs.WritingHome.{FlushesHome, WritesHome}
-use Rattle.hb_store.specs.States.{StoreState}
-use Rattle.hb_store.specs.declared.stops.StopWhy.{StopWhy}
 use Rattle.hb_store.specs.declared.stops.StopWhy.TheVariants as stops
 use Rattle.hb_store.specs.declared.stops.WriteFault.{WriteFault}
-use Rattle.hb_core.specs.declared.outcomes.Outcome.{Outcome}
-use Rattle.hb_core.specs.declared.outcomes.Outcome.TheVariants as outcomes
-use Rattle.hb_core.specs.KeptOrder.{StandsOutside}
-use Rattle.hb_core.specs.Machines.{Machine}
-use Rattle.hb_core.specs.Moving.{with_stop}
-use Rattle.hb_core.specs.Showing.{RunningCore}
-use Rattle.hb_core.specs.Taking.{TakesNextLine, TakesNextMerging, TakesNextPosting}
-use Rattle.hb_core.specs.Touching.{EndsByRead, Touches, held_in}
-use Rattle.hb_core.specs.Working.{MayStep}
+use Rattle.hb_steps.specs.declared.outcomes.Outcome.TheVariants as outcomes
+use Rattle.hb_steps.specs.KeptOrder.{StandsOutside}
 use Rattle.hb_core.proofs.Running.ForcedShows.{waits_or_not, with_held}
 use Rattle.hb_core.proofs.Running.WrittenShows.{home_failed}
 

@@ -1,22 +1,12 @@
 -- Which of a session's lines were dealt with, once a line was answered or nothing was.
-use Rattle.std.proofs.Common.{◌≡◌, ◌≢◌, ◌⊎◌, inl, inr, ℕ, ◌≤◌, true, cond, List, [], ◌∷◌, ◌++◌, length, take, drop, All, Option, Some, None, refl, sym, ap, ◌∙◌, subst, append-nil}
+use Rattle.hb_core.proofs.Running.Names.{◌≡◌, ◌≢◌, ◌⊎◌, inl, inr, ℕ, ◌≤◌, true, cond, List, [], ◌∷◌, ◌++◌, length, take, drop, Option, Some, None, refl, sym, ap, ◌∙◌, subst, append-nil, take-append-drop, All-contains, same_Some, Answered, Line, Activity, Deed, if_same, each_member, behind_front, Machine, with_activity, outcome_of, HasTurn, number_in_hand, is_answered, AreRising}
+use Rattle.std.proofs.Common.{All}
 use Rattle.std.specs.List.{Contains}
-use Rattle.std.proofs.lemmas.List.{take-append-drop}
-use Rattle.std.proofs.lemmas.List.Elements.{All-contains, Contains-append_left}
-use Rattle.std.proofs.lemmas.Option.{same_Some}
-use Rattle.hb_set.specs.declared.scripts.Answered.{Answered}
-use Rattle.hb_set.specs.declared.scripts.Line.{Line}
-use Rattle.hb_activity.specs.declared.activities.Activity.{Activity}
-use Rattle.hb_activity.specs.Deeds.{Deed, Says}
-use Rattle.hb_lemmas.proofs.Booleans.{if_same}
-use Rattle.hb_lemmas.proofs.Lists.{each_member, behind_front}
-use Rattle.hb_core.proofs.Facts.NextLines.{answered_before, now_answered, same_line, still_answered}
+use Rattle.std.proofs.lemmas.List.Elements.{Contains-append_left}
+use Rattle.hb_activity.specs.Deeds.{Says}
+use Rattle.hb_steps.proofs.Facts.NextLines.{answered_before, now_answered, same_line, still_answered}
 use Rattle.hb_core.proofs.Running.NumbersInHand.{NumberFate}
-use Rattle.hb_core.specs.Machines.{Machine, with_activity}
-use Rattle.hb_core.specs.Performing.{given_by, outcome_of}
-use Rattle.hb_core.specs.Showing.{HasTurn, number_in_hand}
-use Rattle.hb_point.specs.SessionRows.{is_answered}
-use Rattle.hb_set.specs.Order.{AreRising}
+use Rattle.hb_steps.specs.Performing.{given_by}
 
 -- The same of lists by themselves, and of the number that the session has in hand.
 abbrev pub Dealt : List Answered → Option ℕ → ℕ → Line → Type 0

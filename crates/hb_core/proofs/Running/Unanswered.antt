@@ -1,26 +1,16 @@
 -- Which lines have no answer, by where their sessions stand.
-use Rattle.std.proofs.Common.{◌≡◌, ◌⊎◌, inl, inr, ◌↔◌, ℕ, zero, suc, ◌+◌, ◌-◌, ◌<◌, ◌≤◌, Bool, true, false, cond, not, IsTrue, List, [], ◌∷◌, ◌++◌, take, drop, length, map, filter, get_or, count_by, slice_get, All, Option, Some, None, IfSome, refl, sym, ap, subst, ◌∙◌, arith, append-nil, append_assoc}
+use Rattle.hb_core.proofs.Running.Names.{◌≡◌, ◌⊎◌, inl, inr, ◌↔◌, ℕ, zero, suc, ◌+◌, ◌-◌, ◌<◌, ◌≤◌, Bool, true, false, cond, not, IsTrue, List, [], ◌∷◌, ◌++◌, take, drop, length, filter, get_or, Option, Some, None, IfSome, refl, sym, ap, subst, ◌∙◌, arith, append-nil, false≢true, get_or-drop, get_or-take, map-append, take_all, get_or_from_slice_get, same_Some, slice_get-get_or, slice_get_within, none-some, DiskModel, Answered, Line, Activity, line_in_hand, is_answered, next_line, MachineKeeps, HasAnswer, awaited_number, Machine, StandsAs, RunningCore, ShowsMachine, number_in_hand}
+use Rattle.std.proofs.Common.{map, count_by, slice_get, All, append_assoc}
 use Rattle.std.specs.Option.{IsSomeAnd}
 use Rattle.std.proofs.Math.Seq.{take-suc}
-use Rattle.std.proofs.lemmas.Bool.{false≢true}
-use Rattle.std.proofs.lemmas.List.{get_or-drop, get_or-take, length-drop, map-append, take_all}
+use Rattle.std.proofs.lemmas.List.{length-drop}
 use Rattle.std.proofs.lemmas.List.Elements.{filter-append}
 use Rattle.std.proofs.lemmas.List.Sums.{count_by_more_no, count_by_more_yes}
-use Rattle.std.proofs.lemmas.Option.{get_or_from_slice_get, same_Some, slice_get-get_or, slice_get_read, slice_get_within, none-some}
-use Rattle.hb_disk.specs.Model.{DiskModel}
-use Rattle.hb_set.specs.declared.scripts.Answered.{Answered}
-use Rattle.hb_set.specs.declared.scripts.Line.{Line}
-use Rattle.hb_activity.specs.declared.activities.Activity.{Activity}
+use Rattle.std.proofs.lemmas.Option.{slice_get_read}
 use Rattle.hb_activity.specs.declared.activities.Activity.TheVariants as at
-use Rattle.hb_activity.specs.Classes.{line_in_hand}
-use Rattle.hb_point.specs.SessionRows.{is_answered, next_line}
-use Rattle.hb_core.specs.KeptMachine.{MachineKeeps}
-use Rattle.hb_core.specs.KeptSequence.{HasAnswer, awaited_number}
-use Rattle.hb_core.specs.Machines.{Machine}
-use Rattle.hb_core.specs.Moving.{StandsAs}
-use Rattle.hb_core.specs.Showing.{IsDealtWith, IsToCome, RunningCore, ShowsMachine, number_in_hand}
+use Rattle.hb_core.specs.Showing.{IsDealtWith, IsToCome}
 use Rattle.hb_core.specs.Runs.{has_none}
-use Rattle.hb_core.proofs.Facts.NextLines.{next_is}
+use Rattle.hb_steps.proofs.Facts.NextLines.{next_is}
 
 -- a member of the front, and one of what lies behind
 in_front : (P : Line → Type 0) (lines : List Line) (n place : ℕ) (line : Line) → All P (take n lines) → place < n → slice_get lines place ≡ Some line → P line

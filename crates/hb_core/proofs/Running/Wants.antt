@@ -1,18 +1,7 @@
 -- What a core's actor wants once pages came is what it wants in each machine that the core shows.
-use Rattle.std.proofs.Common.{◌≡◌, ℕ, sym, ap, ◌∙◌}
-use Rattle.hb_disk.specs.Model.{DiskModel}
-use Rattle.hb_space.specs.Actors.{IsActor}
-use Rattle.hb_activity.specs.declared.activities.Activity.{Activity}
+use Rattle.hb_core.proofs.Running.Names.{◌≡◌, ℕ, sym, ap, ◌∙◌, DiskModel, IsActor, Activity, wanted_by, Brings, MachineKeeps, wanted_in, Machine, StandsAs, RunningCore, ShowsMachine, with_memory}
 use Rattle.hb_core.proofs.Running.Looks.{wants_same}
 use Rattle.hb_core.proofs.Running.StandsElsewhere.{stands_as}
-use Rattle.hb_core.specs.Asking.{wanted_by}
-use Rattle.hb_core.specs.Fetching.{Brings}
-use Rattle.hb_core.specs.KeptMachine.{MachineKeeps}
-use Rattle.hb_core.specs.Looking.{wanted_in}
-use Rattle.hb_core.specs.Machines.{Machine}
-use Rattle.hb_core.specs.Moving.{StandsAs}
-use Rattle.hb_core.specs.Showing.{RunningCore, ShowsMachine}
-use Rattle.hb_core.specs.Working.{with_memory}
 
 wants_then : (d : DiskModel) (c : RunningCore) (m : Machine) (actor : ℕ) → IsActor actor → MachineKeeps m → (needs : ℕ → Type 0) → Brings m needs c.store → ShowsMachine d c (with_memory c m)
     → (activity : Activity) → StandsAs c actor activity → wanted_in c.store activity ≡ wanted_by m actor

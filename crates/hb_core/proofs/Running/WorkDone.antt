@@ -1,39 +1,14 @@
 -- A core that works takes a step of the machine that it shows.
-use Rattle.std.proofs.Common.{◌≡◌, ◌⊎◌, inl, inr, ℕ, ◌-◌, ◌↔◌, arith, Bool, true, false, List, slice_get, slice_set, Option, None, IfSome, IsTrue, refl, sym, ap, ◌∙◌, subst}
+use Rattle.hb_core.proofs.Running.Names.{◌≡◌, ◌⊎◌, inl, inr, ℕ, ◌-◌, ◌↔◌, arith, Bool, true, false, List, slice_set, Option, None, IfSome, IsTrue, refl, sym, ap, ◌∙◌, subst, Activity, DropWhy, Wanted, may_commit, Hand, Empty, HasJob, HasLine, class_of, hand_of, idle_of, Deed, DiskModel, mode_at, HeldModes, IsActor, StopWhy, Use, places, HasPlaces, IsReady, StaysHere, StoreState, in_memory, MustStay, latches_held, CameFor, pages_of, came_stays, GivesUp, Stops, Outcome, looked_live, wanted_by, gives_up, class_for, MayLook, wanted_in, Machine, stopped_for, DoesDeed, StandsAs, number_of, with_stop, RunningCore, ShowsMachine, number_in_hand, IsUnready, Works, IsWorking, MayWork, Halts, MayStep, with_memory}
+use Rattle.std.proofs.Common.{slice_get}
 use Rattle.std.specs.Option.{IsSomeAnd}
-use Rattle.hb_activity.specs.declared.activities.Activity.{Activity}
-use Rattle.hb_activity.specs.declared.dropping.DropWhy.{DropWhy}
-use Rattle.hb_activity.specs.declared.wanting.Wanted.{Wanted}
-use Rattle.hb_activity.specs.Wanting.{may_commit}
-use Rattle.hb_activity.specs.Classes.{Hand, Empty, HasJob, HasLine, class_of, hand_of, idle_of}
-use Rattle.hb_activity.specs.Deeds.{Deed}
-use Rattle.hb_disk.specs.Model.{DiskModel}
-use Rattle.hb_latch.specs.Tables.{IsGrantable, IsLeastInTheWay, LatchTable}
-use Rattle.hb_space.specs.Actors.{IsActor}
-use Rattle.hb_store.specs.declared.stops.StopWhy.{StopWhy}
+use Rattle.hb_latch.specs.Tables.{IsGrantable, IsLeastInTheWay}
 use Rattle.hb_store.specs.declared.stops.StopWhy.TheVariants.{Damaged, WriteFault}
-use Rattle.hb_pool.specs.Frames.{Use}
-use Rattle.hb_pool.specs.Pools.{places}
-use Rattle.hb_store.specs.Calls.{HasPlaces, IsReady, StaysHere}
-use Rattle.hb_store.specs.States.{StoreState, in_memory}
-use Rattle.hb_core.specs.Fetching.{MustStay}
-use Rattle.hb_core.specs.Performing.{latches_held}
-use Rattle.hb_core.specs.Using.{CameFor, pages_of}
-use Rattle.hb_core.proofs.Machines.PinsFollow.{came_stays}
 use Rattle.hb_core.proofs.Running.Frames.{must_here}
-use Rattle.hb_core.specs.declared.halts.Halt.TheVariants.{GivesUp, Stops}
-use Rattle.hb_core.specs.declared.outcomes.Outcome.{Outcome}
-use Rattle.hb_core.specs.declared.outcomes.Outcome.TheVariants as outcomes
-use Rattle.hb_core.specs.Asking.{HasWayFree, looked_live, wanted_by}
-use Rattle.hb_core.specs.GivingUp.{gives_up, gives_up_hand}
-use Rattle.hb_core.specs.KeptFits.{class_for}
-use Rattle.hb_core.specs.Looking.{MayLook, wanted_in}
-use Rattle.hb_core.specs.Machines.{Machine, stopped_for}
-use Rattle.hb_core.specs.Moving.{DoesDeed, StandsAs, number_of, with_stop}
-use Rattle.hb_core.specs.Showing.{RunningCore, ShowsMachine, number_in_hand}
-use Rattle.hb_core.specs.Steps.{IsUnready, Works}
-use Rattle.hb_core.specs.Working.{Halts, IsWorking, MayStep, MayWork, with_memory}
-use Rattle.hb_core.proofs.Running.DeedShows.{deed_shows}
+use Rattle.hb_steps.specs.declared.outcomes.Outcome.TheVariants as outcomes
+use Rattle.hb_steps.specs.Asking.{HasWayFree}
+use Rattle.hb_steps.specs.GivingUp.{gives_up_hand}
+use Rattle.hb_core.proofs.Running.DeedShows.{deed_shows, nothing_moves}
 use Rattle.hb_core.proofs.Running.ForcedShows.{shown_stopped}
 use Rattle.hb_core.proofs.Running.LineTaken.{keeps_none}
 use Rattle.hb_core.proofs.Running.Looks.{may_look_now}
@@ -61,15 +36,15 @@ module _ (d : DiskModel) (c : RunningCore) (m : Machine) (actor : ℕ) (may : Is
   holds_pages pins is = is (m.activity actor) stands ∙ ap (λ (st : StoreState). pages_of (latches_held st (m.activity actor))) (sym step.shows.store)
 
   -- another actor is in the way, and the core stays so
-  pub blocked : (wanted : Option Wanted) (by : ℕ) → wanted ≡ wanted_by m actor → IsSomeAnd wanted (λ w. IsLeastInTheWay c.latches actor w.page w.mode by) → (new : Machine) × Works m actor (outcomes.Blocked by) new × ShowsMachine d c new
+  pub blocked : (wanted : Option Wanted) (by : ℕ) → wanted ≡ wanted_by m actor → IsSomeAnd wanted (λ w. IsLeastInTheWay (mode_at c.latches) actor w.page w.mode by) → (new : Machine) × Works m actor (outcomes.Blocked by) new × ShowsMachine d c new
   blocked wanted by is least =
-      let its = subst (λ (o : Option Wanted). IsSomeAnd o (λ w. IsLeastInTheWay c.latches actor w.page w.mode by)) is least in
-      (m, inl (by, subst (λ (t : LatchTable). IsSomeAnd (wanted_by m actor) (λ w. IsLeastInTheWay t actor w.page w.mode by)) (sym step.shows.latches) its, (refl, refl)), step.shows)
+      let its = subst (λ (o : Option Wanted). IsSomeAnd o (λ w. IsLeastInTheWay (mode_at c.latches) actor w.page w.mode by)) is least in
+      (m, inl (by, subst (λ (t : HeldModes). IsSomeAnd (wanted_by m actor) (λ w. IsLeastInTheWay t actor w.page w.mode by)) (sym step.shows.latches) its, (refl, refl)), step.shows)
 
-  pub way_free : (wanted : Option Wanted) → wanted ≡ wanted_by m actor → IfSome wanted (λ w. IsGrantable c.latches actor w.page w.mode) → HasWayFree m actor
+  pub way_free : (wanted : Option Wanted) → wanted ≡ wanted_by m actor → IfSome wanted (λ w. IsGrantable (mode_at c.latches) actor w.page w.mode) → HasWayFree m actor
   way_free wanted is free =
-      subst (λ (t : LatchTable). IfSome (wanted_by m actor) (λ w. IsGrantable t actor w.page w.mode)) (sym step.shows.latches)
-      (subst (λ (o : Option Wanted). IfSome o (λ w. IsGrantable c.latches actor w.page w.mode)) is free)
+      subst (λ (t : HeldModes). IfSome (wanted_by m actor) (λ w. IsGrantable t actor w.page w.mode)) (sym step.shows.latches)
+      (subst (λ (o : Option Wanted). IfSome o (λ w. IsGrantable (mode_at c.latches) actor w.page w.mode)) is free)
 
   -- what says whether log and memory are ready
   abbrev pub SaysUnready : Option Wanted → Bool → Type 0
@@ -98,7 +73,7 @@ module _ (d : DiskModel) (c : RunningCore) (m : Machine) (actor : ℕ) (may : Is
 
 -- so it may work, by what the calls said
 pub may_work : (d : DiskModel) (c : RunningCore) (m : Machine) (actor : ℕ) (may : IsActor actor) (step : MayStep d c m) (wanted : Option Wanted) (b : Bool) → m.stop ≡ None → IsWorking (m.activity actor)
-    → ((activity : Activity) → StandsAs c actor activity → wanted ≡ wanted_in c.store activity) → IfSome wanted (λ w. IsGrantable c.latches actor w.page w.mode) → SaysUnready d c m actor may step wanted b → b ≡ false → MayWork m actor
+    → ((activity : Activity) → StandsAs c actor activity → wanted ≡ wanted_in c.store activity) → IfSome wanted (λ w. IsGrantable (mode_at c.latches) actor w.page w.mode) → SaysUnready d c m actor may step wanted b → b ≡ false → MayWork m actor
 may_work d c m actor may step wanted b runs works wants_so free says is =
     works_may d c m actor may step runs works (way_free d c m actor may step wanted (wants d c m actor may step wanted wants_so) free) (ready d c m actor may step wanted b (wants d c m actor may step wanted wants_so) says is)
 
@@ -123,7 +98,7 @@ module _ {D : Type 0} (model : D → DiskModel) (x y : D) (c after : RunningCore
       let same_pins = came_stays (wanted_by m actor) m.store.meta m.uses c.uses work.goes_on.kept.frames_fit.tied.pool.distinct halts.used_is in
       let stay : (id : ℕ) → MustStay m id → StaysHere c.uses id = must_here m c.store c.uses work.goes_on.kept (ap (λ (s : StoreState). s.dirty) halts.brings.rest) halts.tied (λ q. let pins = same_pins.pins q in omega (arith, pins)) in
       let none : deed.op ≡ None = no_operation why (idle_of (class_of (m.activity actor))) (hand_of (m.activity actor)) in
-      let shown = deed_shows (model x) c after m actor deed outcome may halts.shows pins done stay work.goes_on.kept.lines_in_sequence (given_up_number m why (m.activity actor) work.working)
+      let shown = deed_shows (model x) c after m actor deed outcome may halts.shows pins done stay _ work.goes_on.kept.latches_fit halts.brings (nothing_moves m _ c.store deed actor outcome _ halts.brings none) work.goes_on.kept.lines_in_sequence (given_up_number m why (m.activity actor) work.working)
       (keeps_none (model x) c.store after.store _ deed.op none done.store) in (
         shown.0,
         inr (inr (work.free, work.ready, inr (inl (record { why = why; fetched = c.store; brings = halts.brings; cause = halts.cause; performs = shown.1.0; came = subst (CameFor (wanted_by m actor) m.store.meta m.uses) (sym shown.1.1) halts.used_is; pins = shown.1.2 ∙ pinned })))),

@@ -1,30 +1,13 @@
 -- What a step that works does to the disk: it reads at most, and says so where a read ended it.
-use Rattle.std.proofs.Common.{◌≡◌, ◌⊎◌, inl, inr, ℕ, refl, sym, ap, ◌∙◌, subst}
-use Rattle.hb_activity.specs.declared.activities.Activity.{Activity}
+use Rattle.hb_core.proofs.Running.Names.{◌≡◌, ◌⊎◌, inl, inr, ℕ, refl, sym, ap, ◌∙◌, subst, Activity, DropWhy, Deed, ReadsOnly, DiskModel, ReadsOnly-neither, StopWhy, GivesUp, Stops, Outcome, DoesRow, wanted_by, gives_up, reply_for, Machine, with_disk, outcome_of, RunningCore, EndsByRead, IsReadHalt, Touches, IsWorking, IsHalt, StoreState}
 use Rattle.hb_activity.specs.declared.activities.Activity.TheVariants as at
-use Rattle.hb_activity.specs.declared.dropping.DropWhy.{DropWhy}
 use Rattle.hb_activity.specs.declared.dropping.DropWhy.TheVariants as drops
-use Rattle.hb_activity.specs.Deeds.{Deed}
-use Rattle.hb_disk.specs.Calls.{ReadsOnly}
-use Rattle.hb_disk.specs.Model.{DiskModel}
-use Rattle.hb_disk.proofs.Facts.FaultLaws.{ReadsOnly-as, ReadsOnly-neither}
+use Rattle.hb_disk.proofs.Facts.FaultLaws.{ReadsOnly-as}
 use Rattle.hb_set.specs.declared.commands.Reply.TheVariants as replies
-use Rattle.hb_store.specs.declared.stops.StopWhy.{StopWhy}
 use Rattle.hb_store.specs.declared.stops.StopWhy.TheVariants as stops
-use Rattle.hb_core.specs.declared.halts.Halt.TheVariants.{GivesUp, Stops}
-use Rattle.hb_core.specs.declared.outcomes.Outcome.{Outcome}
-use Rattle.hb_core.specs.declared.outcomes.Outcome.TheVariants as outcomes
-use Rattle.hb_core.specs.Acting.{DoesRow}
-use Rattle.hb_core.specs.Asking.{wanted_by}
-use Rattle.hb_core.specs.GivingUp.{gives_up, reply_for}
-use Rattle.hb_core.specs.Machines.{Machine, with_disk}
-use Rattle.hb_core.specs.Performing.{outcome_of}
-use Rattle.hb_core.specs.Showing.{RunningCore}
-use Rattle.hb_core.specs.Touching.{EndsByRead, IsReadHalt, Touches}
-use Rattle.hb_core.specs.Working.{IsHalt, IsWorking}
+use Rattle.hb_steps.specs.declared.outcomes.Outcome.TheVariants as outcomes
 use Rattle.hb_core.proofs.Running.Touched.{IsWell, answered_well, full_reply, moved_well, well_as, memory_reply, same_stop}
-use Rattle.hb_core.proofs.Table.RowFates.{IsFullRow, IsQuietRow, saying_of}
-use Rattle.hb_store.specs.States.{StoreState}
+use Rattle.hb_steps.proofs.Table.RowFates.{IsFullRow, IsQuietRow, saying_of}
 
 -- a row that was done ended by no fault
 pub row_well : (m : Machine) (actor : ℕ) (outcome : Outcome) (new : Machine) → DoesRow m actor outcome new → IsWell outcome

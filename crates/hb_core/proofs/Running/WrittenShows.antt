@@ -1,27 +1,15 @@
 -- A core that writes the least recently used dirty page to its place, or finds nothing to write, shows what this makes of the machine.
-use Rattle.std.proofs.Common.{◌≡◌, ℕ, ◌+◌, List, Option, Some, None, IsSome, Ok, Err, Result, refl, sym, ap, ◌∙◌, subst, ◌⊎◌, ◌<◌, inl, inr, arith}
+use Rattle.hb_core.proofs.Running.Names.{◌≡◌, ℕ, ◌+◌, List, Option, Some, None, IsSome, Ok, Err, Result, refl, sym, ap, ◌∙◌, subst, ◌⊎◌, ◌<◌, inl, inr, arith, was_some, DiskModel, Use, in_place, LooksUp, StoreHeld, oldest_dirty, StoreKeeps, StoreState, SwitchesTurn, FlushesHome, WritesHome, Outcome, FailsToWrite, Machine, with_disk, with_uses, with_stop, RunningCore, ShowsMachine, held_in, false≢true}
 use Rattle.std.specs.Prelude.{MatchOption}
-use Rattle.hb_lemmas.proofs.Options.{was_some}
-use Rattle.hb_disk.specs.Model.{DiskModel}
-use Rattle.hb_pool.specs.Frames.{Use, clean}
-use Rattle.hb_pool.specs.Pools.{in_place}
-use Rattle.hb_store.specs.Fetching.{LooksUp}
-use Rattle.hb_store.specs.Held.{StoreHeld, cleaned_state, oldest_dirty}
-use Rattle.hb_store.specs.Keeps.{StoreKeeps}
-use Rattle.hb_store.specs.States.{StoreState}
-use Rattle.hb_store.specs.Switching.{SwitchesTurn, switched_state}
-use Rattle.hb_store.specs.WritingHome.{FlushesClean, FlushesHome, WritesHome}
+use Rattle.hb_pool.specs.Frames.{clean}
+use Rattle.hb_store.specs.Held.{cleaned_state}
+use Rattle.hb_store.specs.Switching.{switched_state}
+use Rattle.hb_store.specs.WritingHome.{FlushesClean}
 use Rattle.hb_store.specs.declared.stops.StopWhy.TheVariants as stops
 use Rattle.hb_store.specs.declared.stops.WriteFault.{WriteFault}
-use Rattle.hb_core.specs.declared.outcomes.Outcome.{Outcome}
-use Rattle.hb_core.specs.declared.outcomes.Outcome.TheVariants as outcomes
-use Rattle.hb_core.specs.Forcing.{BeginsTurn, FailsToWrite, HasDirtyPage, HasOldTurn, WritesOldest}
-use Rattle.hb_core.specs.Machines.{Machine, with_disk, with_uses}
-use Rattle.hb_core.specs.Moving.{with_stop}
-use Rattle.hb_core.specs.Showing.{RunningCore, ShowsMachine}
-use Rattle.hb_core.specs.Touching.{held_in}
+use Rattle.hb_steps.specs.declared.outcomes.Outcome.TheVariants as outcomes
+use Rattle.hb_steps.specs.Forcing.{BeginsTurn, HasDirtyPage, HasOldTurn, WritesOldest}
 use Rattle.hb_core.proofs.Running.ForcedShows.{fails_by, kept_before, shown_with, silent_before, with_held}
-use Rattle.std.proofs.lemmas.Bool.{false≢true}
 
 module _ (d e : DiskModel) (c : RunningCore) (st : StoreState) (uses : List Use) (m : Machine) (shows : ShowsMachine d c m) where
   abbrev pub now : StoreHeld
@@ -34,7 +22,7 @@ module _ (d e : DiskModel) (c : RunningCore) (st : StoreState) (uses : List Use)
       let stays = looks.only.stays in
       let store : m.store ≡ st = shows.store ∙ ap (λ (h : StoreHeld). h.state) (sym same) in
       let used : m.uses ≡ uses = shows.uses ∙ ap (λ (h : StoreHeld). h.uses) (sym same) in
-      shown_with d e c st uses m shows m.store m.uses m.files m.clock store used
+      shown_with d e c st uses m shows m.store m.uses m.files m.clock refl store used
       (λ told.
       let had = shows.tells (subst (λ (o : Option (List ℕ)). IsSome o) stays.told told) in
       record {
@@ -58,7 +46,7 @@ module _ (d e : DiskModel) (c : RunningCore) (st : StoreState) (uses : List Use)
     writes_well due writes = (
       written,
       record { says = refl; leaves = refl },
-      shown_with d e c st uses m shows (cleaned_state id m.store) (in_place id clean m.uses) m.files (m.clock + 1) store used
+      shown_with d e c st uses m shows (cleaned_state id m.store) (in_place id clean m.uses) m.files (m.clock + 1) refl store used
           (λ told.
           let was = was_some d.told e.told writes.wrote.became.silent told in
           let had = shows.tells was in
@@ -94,7 +82,7 @@ module _ (d e : DiskModel) (c : RunningCore) (st : StoreState) (uses : List Use)
     turns_well due switches = (
       turned,
       record { says = refl; leaves = refl },
-      shown_with d e c st uses m shows (switched_state m.store) m.uses m.files (m.clock + 9) store used
+      shown_with d e c st uses m shows (switched_state m.store) m.uses m.files (m.clock + 9) refl store used
           (λ told.
           let was = was_some d.told e.told switches.wrote.became.silent told in
           let had = shows.tells was in

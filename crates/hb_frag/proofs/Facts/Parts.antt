@@ -1,5 +1,6 @@
 -- Parts of a tree, and another part in the place of one.
-use Rattle.std.proofs.Common.{◌≡◌, ℕ, ◌+◌, min, ◌↔◌, List, [], ◌∷◌, ◌++◌, Some, IsSome, refl, sym, ap, subst, ◌∙◌, arith}
+use Rattle.std.proofs.Common.{◌≡◌, inl, inr, ℕ, ◌+◌, ◌*◌, ◌<◌, min, ◌↔◌, List, [], ◌∷◌, ◌++◌, Some, IsSome, refl, sym, ap, subst, ◌∙◌, arith}
+use Rattle.std.proofs.lemmas.Bool.{cases_lt, lt-leb}
 use Rattle.std.proofs.lemmas.List.{append_assoc, append-nil}
 use Rattle.std.proofs.lemmas.Grind.{common_steps}
 use Rattle.hb_space.specs.Boxes.{Area, IsArea, side_below, side_from}
@@ -9,6 +10,7 @@ use Rattle.hb_frag.specs.declared.paths.Side.TheVariants.{Left, Right}
 use Rattle.hb_frag.specs.Trees.{Tree, Tip, Cut}
 use Rattle.hb_frag.specs.Leaves.{IsWellCut, leaves_of, weight_of}
 use Rattle.hb_frag.specs.Paths.{part_at, with_part, StaysInside}
+use Rattle.hb_frag.specs.Rules.{is_thin}
 use Rattle.hb_frag.specs.Laws.{IsStretch, IsPart}
 use Rattle.hb_frag.proofs.Facts.Sides.{IsArea-side_below, IsArea-side_from}
 use Rattle.std.proofs.lemmas.Option.{same_Some}
@@ -79,6 +81,13 @@ weight_cut axis value left right = grind (arith, common_steps)
 -- the same of weights that are bounded
 pub most_of_cut : (axis value : ℕ) (left right : Tree) (most : ℕ) → min (min (weight_of left) most + min (weight_of right) most) most ≡ min (weight_of (Cut axis value left right)) most
 most_of_cut axis value left right most = omega (arith, weight_cut axis value left right)
+
+-- a page that weighs more than the numbers of the type isn't thin either way
+pub thin_by_most : (weight most capacity : ℕ) → capacity < most → is_thin (min weight most) capacity ≡ is_thin weight capacity
+thin_by_most weight most capacity fits = elim (cases_lt most weight) [
+  | inl above ↦ lt-leb (4 * min weight most) capacity (omega (arith, fits, above)) ∙ sym (lt-leb (4 * weight) capacity (omega (arith, fits, above)))
+  | inr le ↦ ap (λ (n : ℕ). is_thin n capacity) (omega (arith, le))
+]
 
 pub part_weighs : (path : List Side) (t : Tree) (area : Area) (w : Tree × Area) (other : Tree) → part_at path t area ≡ Some w → weight_of (with_part path t other) + weight_of w.0 ≡ weight_of t + weight_of other
 part_weighs [] t area w other e =

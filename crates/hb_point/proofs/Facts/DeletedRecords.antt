@@ -54,22 +54,3 @@ weighs_less meta page p records area found made leaf there more = let is = weigh
 pub weighs_same : (meta : Meta) (page : LivePage) (p : List ℕ) (records : List Record) (area : Area) (found : Record) → FitsFile meta page → leaf_at page p ≡ Some (record { leaf = Records records; area = area }) → StandsThere page p found →
     length records ≤ 1 → weight_of page.frag ≡ weight_of (del_page p page).frag
 weighs_same meta page p records area found made leaf there one = let is = weighs_without meta page p records area found made leaf there in omega (arith, is, one)
-
--- ---- a quarter of the capacity
-
-quarter : (weight cap : ℕ) → (weight ≤ cap / 4) ↔ (4 * weight ≤ cap)
-quarter weight cap = (λ le. omega (arith, le), λ le. omega (arith, le))
-
-told : (b : Bool) (weight cap : ℕ) → (IsTrue b ↔ (weight ≤ cap / 4)) → b ≡ nat_le (4 * weight) cap
-told true weight cap test = sym (le-leb (4 * weight) cap ((quarter weight cap).0 (test.0 refl)))
-told false weight cap test = elim (cases_lt cap (4 * weight)) [
-  | inl above ↦ sym (lt-leb (4 * weight) cap above)
-  | inr le ↦ absurd (false≢true (test.1 ((quarter weight cap).1 le)))
-]
-
--- the tests of a page's weight before a record goes, where its leaf has others and where it has none
-pub thin_of_many : (b : Bool) (weight after cap : ℕ) → (IsTrue b ↔ (weight ≤ cap / 4 + 1)) → after + 1 ≡ weight → b ≡ nat_le (4 * after) cap
-thin_of_many b weight after cap test less = told b after cap (λ so. (let le = test.0 so in omega (arith, le, less)), λ le. test.1 (omega (arith, le, less)))
-
-pub thin_of_one : (b : Bool) (weight after cap : ℕ) → (IsTrue b ↔ (weight ≤ cap / 4)) → weight ≡ after → b ≡ nat_le (4 * after) cap
-thin_of_one b weight after cap test same = told b after cap (subst (λ (n : ℕ). IsTrue b ↔ (n ≤ cap / 4)) same test)

@@ -6,10 +6,10 @@ use Rattle.hb_activity.specs.declared.activities.Activity.{Activity}
 use Rattle.hb_activity.specs.declared.jobs.Job.{Job}
 use Rattle.hb_activity.specs.declared.jobs.JobKind.{JobKind}
 use Rattle.hb_activity.specs.declared.jobs.JobKind.TheVariants.{Post, Merge}
-use Rattle.hb_core.specs.Machines.{Machine}
-use Rattle.hb_core.specs.ProgressLaws.{jobs_of}
+use Rattle.hb_steps.specs.Machines.{Machine}
+use Rattle.hb_steps.specs.ProgressLaws.{jobs_of}
 use Rattle.hb_core.specs.Showing.{RunningCore, ShowsMachine}
-use Rattle.hb_core.specs.Taking.{jobs_in_work, worker_for}
+use Rattle.hb_steps.specs.ProgressLaws.{jobs_in_work, worker_for}
 use Rattle.hb_disk.specs.Model.{DiskModel}
 use Rattle.hb_run.specs.Turning.{in_work, jobs_left}
 use Rattle.hb_space.specs.Actors.{IsActor}

@@ -15,7 +15,7 @@ use Rattle.hb_frag.specs.Normal.{normal}
 use Rattle.hb_frag.specs.NormalLaws.{SaysTheSame}
 use Rattle.hb_frag.specs.Paths.{sibling_way, with_part}
 use Rattle.hb_frag.specs.Renaming.{renamed}
-use Rattle.hb_frag.specs.Rules.{BelongsAt, IsFilledRight, capacity_of}
+use Rattle.hb_frag.specs.Rules.{BelongsAt, IsFilledRight, capacity_of, most_merged}
 use Rattle.hb_frag.specs.Grammar.{FitsLeaf, FitsTree, HasSpelling}
 use Rattle.hb_frag.proofs.Facts.Parts.{part_weighs}
 use Rattle.hb_frag.proofs.Facts.Renamed.{renames}
@@ -73,8 +73,8 @@ cuts_normal k (Cut axis value left right) fits =
 read_tree : (meta : Meta) (page : LivePage) → HasSpelling (Live page) → FitsFile meta page → FitsTree meta.k page.frag
 read_tree meta page has made = subst (λ (n : ℕ). FitsTree n page.frag) made.fits.attributes has.fits.2
 
-quarter_less : (cap weight : ℕ) → 4 * weight ≤ 3 * cap → weight ≤ cap
-quarter_less cap weight le = omega (arith, le)
+merged_less : (cap weight : ℕ) → weight ≤ most_merged cap → weight ≤ cap
+merged_less cap weight le = omega (arith, le)
 
 -- good pages can be written
 spelled_all : (op : Op) (meta : Meta) (first second third : Option LivePage) → All (λ c. IsGoodPage (change_of op meta first second third).meta c.1) (change_of op meta first second third).pages
@@ -117,7 +117,7 @@ module _ (same : (t : Tree) → SaysTheSame t (normal t)) (within : WithinCapaci
       let weighs = part_weighs way kept.frag kept.area (Tip (Sibling gone), leads.box) going.frag leads.part in
       let level : going.level ≡ kept.level = omega (arith, fits.pages.kept_level, fits.pages.gone_level) in
       let lighter : weight_of (normal t) ≤ merged_weight kept going = omega (arith, said.weight, weighs) in
-      let few = quarter_less (capacity_of kept.level meta.dcap meta.icap) (merged_weight kept going) fits.may.light in
+      let few = merged_less (capacity_of kept.level meta.dcap meta.icap) (merged_weight kept going) fits.may.light in
       let kinds = with_leaves (BelongsAt kept.level) way kept.frag going.frag fits.pages.kept_made.filled.kinds (subst (λ (n : ℕ). All (BelongsAt n) (leaves going.frag)) level fits.pages.gone_made.filled.kinds) in
       spelled_with meta kept (normal t) limits has fits.pages.kept_made (cuts_normal meta.k t (cuts_with meta.k way kept.frag going.frag (cuts_of meta.k kept.frag old) (cuts_of meta.k going.frag new)))
       (taken_fit meta.k gone kept going (all_fit meta.k kept.frag old) (all_fit meta.k going.frag new) (Some way)) (record {

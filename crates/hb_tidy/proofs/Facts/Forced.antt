@@ -4,17 +4,17 @@ use Rattle.std.proofs.Common.{◌≡◌, inl, inr, ℕ, [], Option, None, Ok, Re
 use Rattle.hb_activity.specs.declared.activities.Activity.{Activity}
 use Rattle.hb_core.proofs.Facts.BetweenCalls.{flusher_stands}
 use Rattle.hb_core.specs.Between.{said_of_flush}
-use Rattle.hb_core.specs.Forcing.{FailsToWrite, Flushes, FlushesRest, ForcesAll, StaysSo}
-use Rattle.hb_core.specs.KeptMachine.{MachineKeeps}
-use Rattle.hb_core.specs.Machines.{Machine}
-use Rattle.hb_core.specs.Performing.{given_by}
+use Rattle.hb_steps.specs.Forcing.{FailsToWrite, Flushes, FlushesRest, ForcesAll, StaysSo}
+use Rattle.hb_steps.specs.KeptMachine.{MachineKeeps}
+use Rattle.hb_steps.specs.Machines.{Machine}
+use Rattle.hb_steps.specs.Performing.{given_by}
 use Rattle.hb_core.specs.Runs.{RunningLaws}
 use Rattle.hb_core.specs.Showing.{RunningCore, ShowsMachine}
-use Rattle.hb_core.specs.Steps.{StepsAs, StepsTo}
+use Rattle.hb_steps.specs.Steps.{StepsAs, StepsTo}
 use Rattle.hb_core.specs.Touching.{Touches}
 use Rattle.hb_core.specs.Working.{MayStep}
-use Rattle.hb_core.specs.declared.outcomes.Outcome.{Outcome}
-use Rattle.hb_core.specs.declared.outcomes.Outcome.TheVariants as outcomes
+use Rattle.hb_steps.specs.declared.outcomes.Outcome.{Outcome}
+use Rattle.hb_steps.specs.declared.outcomes.Outcome.TheVariants as outcomes
 use Rattle.hb_disk.specs.Model.{DiskModel, IsDisk}
 use Rattle.hb_store.specs.declared.stops.Flushed.{Flushed}
 use Rattle.hb_store.specs.declared.stops.Flushed.TheVariants as flushes

@@ -16,9 +16,9 @@ use Rattle.hb_store.specs.declared.stops.StopWhy.{StopWhy}
 use Rattle.hb_store.specs.declared.stops.StopWhy.TheVariants as whys
 use Rattle.hb_core.proofs.Facts.RunDisks.{file_more}
 use Rattle.hb_core.proofs.Facts.RunFaults.{rose_longer}
-use Rattle.hb_core.specs.KeptMachine.{CoreKeeps}
-use Rattle.hb_core.specs.Machines.{Files, Machine}
-use Rattle.hb_core.specs.MomentLaws.{IsPrefixImage}
+use Rattle.hb_steps.specs.KeptMachine.{CoreKeeps}
+use Rattle.hb_steps.specs.Machines.{Files, Machine}
+use Rattle.hb_steps.specs.MomentLaws.{IsPrefixImage}
 use Rattle.hb_core.specs.Runs.{ChangesFile, CountsFaults, HoldsSince}
 use Rattle.hb_core.specs.Showing.{RunningCore}
 use Rattle.hb_core.specs.Working.{MayStep}

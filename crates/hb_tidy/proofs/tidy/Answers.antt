@@ -1,7 +1,7 @@
 use Rattle.std.proofs.Common.{◌≡◌, ◌⊎◌, ◌<◌, inl, inr, sym, ap, ◌∙◌, arith}
 use Rattle.hb_disk.specs.Model.{DiskModel}
 use Rattle.hb_activity.specs.declared.jobs.JobKind.TheVariants.{Merge, Post}
-use Rattle.hb_core.specs.ProgressLaws.{jobs_of}
+use Rattle.hb_steps.specs.ProgressLaws.{jobs_of}
 use Rattle.hb_core.specs.CoreSeen.{core_seen, core_disk}
 use Rattle.hb_core.specs.declared.counts.TidyCounts.{TidyCounts}
 use Rattle.hb_tidy.proofs.Ends.{ends_at_once, ends_by_err, ends_well}

@@ -4,7 +4,7 @@ use Rattle.std.proofs.lemmas.List.Elements.{All-get_or}
 use Rattle.hb_space.specs.Actors.{IsActor}
 use Rattle.hb_set.specs.declared.scripts.Answered.{Answered}
 use Rattle.hb_core.specs.CoreSeen.{core_seen, core_disk}
-use Rattle.hb_core.specs.Performing.{given_by}
+use Rattle.hb_steps.specs.Performing.{given_by}
 use Rattle.hb_core.specs.Runs.{HasRun}
 use Rattle.hb_core.proofs.Facts.RunSteps.{may_go_on}
 use Rattle.hb_drive.proofs.PutTexts.{has_put_none, puts_given}

@@ -4,7 +4,7 @@ use Rattle.std.specs.Vec.{vec_capacity}
 use Rattle.hb_outside.specs.Calls.{Puts}
 use Rattle.hb_text.specs.Output.{answer_text}
 use Rattle.hb_core.specs.CoreSeen.{core_seen, core_disk}
-use Rattle.hb_core.specs.Machines.{Machine}
+use Rattle.hb_steps.specs.Machines.{Machine}
 use Rattle.hb_core.specs.Runs.{HasRun}
 use Rattle.hb_core.specs.Working.{MayStep}
 use Rattle.hb_drive.proofs.taking.take_steps.Given as goal

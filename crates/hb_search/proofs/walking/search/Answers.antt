@@ -1,4 +1,5 @@
-use Rattle.std.proofs.Common.{subst, sym, ◌∙◌}
+use Rattle.std.proofs.Common.{[], ◌∷◌, ap, subst, sym, ◌∙◌}
+use Rattle.hb_activity.specs.declared.jobs.Job.{Job}
 use Rattle.hb_activity.specs.Walks.{goal_of}
 use Rattle.hb_frag.specs.declared.leaves.Leaf.TheVariants.{Records, Child, Sibling}
 use Rattle.hb_search.proofs.AskedSearches.{gathers_if, leaf_here, meets_records, passes_on, stays_so}
@@ -37,7 +38,7 @@ pub returns-in-Sibling-default-clause-row : goal.returns-in-Sibling-default-clau
 returns-in-Sibling-default-clause-row c =
     let corner = c.copy-corner.ensures ∙ c.lo.ensures.value in
     let there = leaf_here c.args.latched.page.now c.copy-corner.result c.last_of.result.now.lo _ (Sibling c.in-Sibling-default.field-0-0) c.leaf_at.result.1 corner c.leaf_at.ensures.value c.in-Sibling-default.is-0 in
-    passes_on c.args.latched.meta.now c.args.line c.args.rest c.args.found c.args.latched.id c.args.latched.page.now c.adds.result c.last_of.result.now.lo (Sibling c.in-Sibling-default.field-0-0) c.leaf_at.result.1 c.last_of.ensures.goal there tt (c.adds.ensures.stands ∙ c.onward-in-Sibling-default.ensures) c.adds.ensures.op (rw (sym corner) c.adds.ensures.jobs) c.adds.ensures.fate
+    passes_on c.args.latched.meta.now c.args.line c.args.rest c.args.found c.args.latched.id c.args.latched.page.now c.adds.result c.last_of.result.now.lo (Sibling c.in-Sibling-default.field-0-0) c.leaf_at.result.1 c.last_of.ensures.goal there tt (c.adds.ensures.stands ∙ c.onward-in-Sibling-default.ensures) c.adds.ensures.op (rw (sym corner) (c.adds.ensures.jobs ∙ ap (λ (job : Job). job ∷ []) c.owed-owed.ensures)) c.adds.ensures.fate
 
 pub returns-in-Child-default-clause-kept : goal.returns-in-Child-default-clause-kept
 returns-in-Child-default-clause-kept c = stays_so _ _ (c.moves.ensures.stands ∙ c.onward.ensures) c.requires.gathering

@@ -2,7 +2,7 @@ use Rattle.std.proofs.Common.{◌≡◌, ℕ, All, Ok, take}
 use Rattle.hb_space.specs.Boxes.{Area}
 use Rattle.hb_ops.specs.Settled.{IsMergeable}
 use Rattle.hb_core.specs.CoreSeen.{core_seen, core_disk}
-use Rattle.hb_core.specs.KeptFits.{JobFits}
+use Rattle.hb_steps.specs.KeptFits.{JobFits}
 use Rattle.hb_tidy.specs.Finding.{BothLive}
 use Rattle.hb_tidy.specs.Going.{MayTidy}
 use Rattle.hb_tidy.specs.Looking.{LooksOver}

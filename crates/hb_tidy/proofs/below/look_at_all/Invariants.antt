@@ -1,6 +1,6 @@
 use Rattle.std.proofs.Common.{◌≡◌, All, Ok, take}
 use Rattle.hb_core.specs.CoreSeen.{core_seen, core_disk}
-use Rattle.hb_core.specs.KeptFits.{JobFits}
+use Rattle.hb_steps.specs.KeptFits.{JobFits}
 use Rattle.hb_tidy.specs.Finding.{HasPage, IsTidyBelow}
 use Rattle.hb_tidy.specs.Going.{MayTidy}
 use Rattle.hb_tidy.specs.Looking.{LooksOver}

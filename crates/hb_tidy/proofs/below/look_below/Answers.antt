@@ -6,7 +6,7 @@ use Rattle.hb_layout.specs.declared.meta.Meta.{Meta}
 use Rattle.hb_ops.specs.Files.{FileState, live_page}
 use Rattle.hb_ops.specs.Sound.{FitsFile}
 use Rattle.hb_core.specs.CoreSeen.{core_seen, core_disk}
-use Rattle.hb_core.specs.KeptFits.{JobFits}
+use Rattle.hb_steps.specs.KeptFits.{JobFits}
 use Rattle.hb_tidy.proofs.Belows.{refused_then}
 use Rattle.hb_tidy.proofs.ChildrenSeen.{child_owed, child_then}
 use Rattle.hb_tidy.proofs.ChildrenThere.{child_stands}

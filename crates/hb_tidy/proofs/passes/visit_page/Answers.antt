@@ -5,7 +5,7 @@ use Rattle.hb_space.specs.Boxes.{Area}
 use Rattle.hb_layout.specs.declared.meta.Meta.{Meta}
 use Rattle.hb_ops.specs.Files.{FileState}
 use Rattle.hb_core.specs.CoreSeen.{core_seen, core_disk}
-use Rattle.hb_core.specs.KeptFits.{JobFits}
+use Rattle.hb_steps.specs.KeptFits.{JobFits}
 use Rattle.hb_tidy.proofs.Belows.{over_refused}
 use Rattle.hb_tidy.proofs.ChildrenSeen.{leaves_all}
 use Rattle.hb_tidy.proofs.Exits.{over_exit, over_value}

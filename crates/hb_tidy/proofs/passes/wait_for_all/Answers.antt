@@ -1,7 +1,7 @@
 use Rattle.std.proofs.Common.{◌≡◌, All, get_or, Ok, refl, sym, ◌∙◌, subst, arith, rules}
 use Rattle.hb_layout.specs.declared.meta.Meta.{Meta}
 use Rattle.hb_core.specs.CoreSeen.{core_seen, core_disk}
-use Rattle.hb_core.specs.KeptFits.{JobFits}
+use Rattle.hb_steps.specs.KeptFits.{JobFits}
 use Rattle.std.proofs.lemmas.List.Elements.{All-get_or}
 use Rattle.hb_tidy.proofs.Facts.Joined.{over_known, over_then}
 use Rattle.hb_tidy.proofs.JobLists.{no_first}

@@ -1,6 +1,6 @@
 use Rattle.std.proofs.Common.{◌⊎◌, ◌≡◌, ◌<◌, ◌-◌, ◌^◌, Ok}
 use Rattle.hb_core.specs.CoreSeen.{core_seen, core_disk}
-use Rattle.hb_core.specs.Taking.{worker_for}
+use Rattle.hb_steps.specs.ProgressLaws.{worker_for}
 use Rattle.hb_tidy.specs.Going.{Goes, MayTidy, RestsBut}
 use Rattle.hb_tidy.proofs.stepping.work_off.Given as goal
 

@@ -11,7 +11,7 @@ use Rattle.hbpi.specs.declared.statuses.Status.{Status}
 use Rattle.hbpi.proofs.map_file.map_file.Goals as goal
 
 pub put_map-requires : goal.put_map-requires
-put_map-requires g c = new_may_go _ _ (seen_as c.in-Ok.store) (uses_of c.in-Ok.store) c.in-Ok.ensures.opened.is_new c.meta.ensures.tied
+put_map-requires g c = new_may_go _ _ (seen_as c.in-Ok.store) (uses_of c.in-Ok.store) c.in-Ok.ensures.opened.is_new c.stands_well.ensures.tied
 
 pub returns-in-Ok : goal.returns-in-Ok
 returns-in-Ok g c source =

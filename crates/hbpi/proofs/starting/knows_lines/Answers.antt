@@ -1,6 +1,6 @@
 use Rattle.std.proofs.Common.{arith}
 use Rattle.hb_lemmas.proofs.Lists.{All-take_more}
-use Rattle.hb_core.specs.KeptLines.{HasLineBody}
+use Rattle.hb_steps.specs.KeptLines.{HasLineBody}
 use Rattle.hbpi.specs.Schedules.{HasLineBox}
 use Rattle.hbpi.proofs.RunLines.{each_line}
 use Rattle.hbpi.proofs.starting.knows_lines.Goals as goal

@@ -1,5 +1,5 @@
 use Rattle.std.proofs.Common.{take, All}
-use Rattle.hb_core.specs.KeptLines.{HasLineBody}
+use Rattle.hb_steps.specs.KeptLines.{HasLineBody}
 use Rattle.hbpi.specs.Schedules.{HasLineBox}
 use Rattle.hbpi.proofs.starting.knows_lines.Given as goal
 

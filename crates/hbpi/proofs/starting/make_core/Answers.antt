@@ -1,5 +1,5 @@
 use Rattle.std.proofs.Common.{◌≡◌, ℕ, List, All, ap, subst, ◌∙◌, arith}
-use Rattle.hb_core.specs.KeptLines.{HasLineBody}
+use Rattle.hb_steps.specs.KeptLines.{HasLineBody}
 use Rattle.hb_core.specs.Taking.{begun_core}
 use Rattle.hb_layout.specs.declared.meta.Meta.{Meta}
 use Rattle.hb_set.proofs.Facts.ScriptLaws.{script_is_short}

@@ -2,7 +2,7 @@ use Rattle.std.proofs.Common.{◌∙◌}
 use Rattle.std.proofs.lemmas.Result.{IfOk-weaker}
 use Rattle.hb_activity.specs.Deciding.{deed_of}
 use Rattle.hb_store.specs.Seen.{seen_as}
-use Rattle.hb_core.specs.Looking.{number_of_row}
+use Rattle.hb_steps.specs.Looking.{number_of_row}
 use Rattle.hb_core.proofs.Running.SeenRows.{poster_free, poster_said}
 use Rattle.hb_core.proofs.state.Core.ask_poster.Goals as goal
 

@@ -1,7 +1,7 @@
 use Rattle.std.proofs.lemmas.Result.{IfOk-weaker}
 use Rattle.hb_activity.specs.Deciding.{deed_of}
 use Rattle.hb_store.specs.Seen.{seen_as}
-use Rattle.hb_core.specs.Looking.{number_of_row}
+use Rattle.hb_steps.specs.Looking.{number_of_row}
 use Rattle.hb_core.proofs.Running.SeenWalks.{point_back}
 use Rattle.hb_core.proofs.state.Core.ask_session.Goals as goal
 

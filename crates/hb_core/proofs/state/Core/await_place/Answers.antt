@@ -1,6 +1,6 @@
 use Rattle.hb_core.proofs.state.Core.await_place.Goals as goal
 use Rattle.std.proofs.Common.{Some, refl, ap, ◌∙◌}
-use Rattle.hb_core.specs.declared.outcomes.Outcome.TheVariants as outcomes
+use Rattle.hb_steps.specs.declared.outcomes.Outcome.TheVariants as outcomes
 use Rattle.hb_core.proofs.Running.Counted.{counts_so, forced_no_op, stopped_no_op}
 use Rattle.hb_core.proofs.Running.PlacesAwaited.{await_answered, await_failed, await_forced, awaits_as}
 use Rattle.hb_core.proofs.Running.Touched.{failed_then, kept_well, moved_well, touched_forced, untouched, well_as}

@@ -8,7 +8,8 @@ use Rattle.hb_store.specs.Seen.{seen_as, uses_of}
 use Rattle.hb_store.specs.States.{StoreState, in_memory}
 use Rattle.hb_core.specs.Moving.{with_order_of_use, with_store}
 use Rattle.hb_core.specs.CoreSeen.{core_seen}
-use Rattle.hb_core.specs.Working.{Halts, IsWorking}
+use Rattle.hb_core.specs.Going.{IsWorking}
+use Rattle.hb_core.specs.Working.{Halts}
 use Rattle.hb_core.specs.declared.halts.Halt.{Halt}
 use Rattle.hb_core.proofs.Running.Coming.{failed_test, looks_as, looks_kept, may_be_pinned, may_let_go, not_crowded, passed, refused}
 use Rattle.hb_core.proofs.Running.StandsElsewhere.{stands_as}
@@ -29,16 +30,16 @@ tested-requires g c =
       there = (subst (λ (st : StoreState). Fetched c.in-Some.wanted.page (seen_as c.args.self.now.store) st) (sym c.pin.ensures.seen) c.in-Ok.ensures.fetched).there;
       working = λ activity stands. subst IsWorking (stands_as (g.D.Device.model c.args.self.now.store.disk) (core_seen c.args.self.now) m c.args.actor activity c.requires.actor may.shows stands) c.requires.may.2.working;
       look = looks_as m (g.D.Device.model c.args.self.now.store.disk) (core_seen c.args.self.now) c.args.actor c.requires.actor may c.requires.may.2 c.in-Some.wanted (sym (c.requires.wanted m may) ∙ c.in-Some.is)
-          (g.D.Device.model c.pin.new.self.disk) _ (seen_as c.pin.new.self) (looks_kept (ap g.D.Device.model c.pin.ensures.disk) c.pin.ensures.seen c.in-Ok.ensures.looks) c.meta.ensures.store.memory (subst (λ (st : StoreState). Fetched c.in-Some.wanted.page (seen_as c.args.self.now.store) st) (sym c.pin.ensures.seen) c.in-Ok.ensures.fetched)
+          (g.D.Device.model c.pin.new.self.disk) _ (seen_as c.pin.new.self) (looks_kept (ap g.D.Device.model c.pin.ensures.disk) c.pin.ensures.seen c.in-Ok.ensures.looks) c.stands_well.ensures.store.memory (subst (λ (st : StoreState). Fetched c.in-Some.wanted.page (seen_as c.args.self.now.store) st) (sym c.pin.ensures.seen) c.in-Ok.ensures.fetched)
           (λ id stays. ap (λ (st : StoreState). in_memory st id) c.pin.ensures.seen ∙ c.in-Ok.ensures.stays id stays);
     }
 
 pub returns-in-Ok-tested-clause-comes : goal.returns-in-Ok-tested-clause-comes
 returns-in-Ok-tested-clause-comes g c m may work =
     passed m (g.D.Device.model c.args.self.now.store.disk) (core_seen c.args.self.now) c.args.actor c.requires.actor may work c.in-Some.wanted (sym (c.requires.wanted m may) ∙ c.in-Some.is)
-    (g.D.Device.model c.pin.new.self.disk) _ (seen_as c.pin.new.self) (looks_kept (ap g.D.Device.model c.pin.ensures.disk) c.pin.ensures.seen c.in-Ok.ensures.looks) c.meta.ensures.store.memory (subst (λ (st : StoreState). Fetched c.in-Some.wanted.page (seen_as c.args.self.now.store) st) (sym c.pin.ensures.seen) c.in-Ok.ensures.fetched)
+    (g.D.Device.model c.pin.new.self.disk) _ (seen_as c.pin.new.self) (looks_kept (ap g.D.Device.model c.pin.ensures.disk) c.pin.ensures.seen c.in-Ok.ensures.looks) c.stands_well.ensures.store.memory (subst (λ (st : StoreState). Fetched c.in-Some.wanted.page (seen_as c.args.self.now.store) st) (sym c.pin.ensures.seen) c.in-Ok.ensures.fetched)
     (λ id stays. ap (λ (st : StoreState). in_memory st id) c.pin.ensures.seen ∙ c.in-Ok.ensures.stays id stays)
-    (uses_of c.pin.new.self) (c.pin.ensures.uses ∙ ap (put_last c.in-Some.wanted.page pinned) c.in-Ok.ensures.uses) c.meta.ensures.tied
+    (uses_of c.pin.new.self) (c.pin.ensures.uses ∙ ap (put_last c.in-Some.wanted.page pinned) c.in-Ok.ensures.uses) c.stands_well.ensures.tied
     (c.in-Ok-tested.ensures.passes (m.activity c.args.actor) (may.shows.activities c.args.actor c.requires.actor))
 
 pub unpin-requires : goal.unpin-requires
@@ -46,9 +47,9 @@ unpin-requires g c =
     let m = c.requires.may.0 in
     let may = c.requires.may.1 in
     may_let_go m (g.D.Device.model c.args.self.now.store.disk) (core_seen c.args.self.now) c.args.actor c.requires.actor may c.requires.may.2 c.in-Some.wanted (sym (c.requires.wanted m may) ∙ c.in-Some.is)
-    (g.D.Device.model c.pin.new.self.disk) _ (seen_as c.pin.new.self) (looks_kept (ap g.D.Device.model c.pin.ensures.disk) c.pin.ensures.seen c.in-Ok.ensures.looks) c.meta.ensures.store.memory (subst (λ (st : StoreState). Fetched c.in-Some.wanted.page (seen_as c.args.self.now.store) st) (sym c.pin.ensures.seen) c.in-Ok.ensures.fetched)
+    (g.D.Device.model c.pin.new.self.disk) _ (seen_as c.pin.new.self) (looks_kept (ap g.D.Device.model c.pin.ensures.disk) c.pin.ensures.seen c.in-Ok.ensures.looks) c.stands_well.ensures.store.memory (subst (λ (st : StoreState). Fetched c.in-Some.wanted.page (seen_as c.args.self.now.store) st) (sym c.pin.ensures.seen) c.in-Ok.ensures.fetched)
     (λ id stays. ap (λ (st : StoreState). in_memory st id) c.pin.ensures.seen ∙ c.in-Ok.ensures.stays id stays)
-    (uses_of c.pin.new.self) (c.pin.ensures.uses ∙ ap (put_last c.in-Some.wanted.page pinned) c.in-Ok.ensures.uses) c.meta.ensures.tied
+    (uses_of c.pin.new.self) (c.pin.ensures.uses ∙ ap (put_last c.in-Some.wanted.page pinned) c.in-Ok.ensures.uses) c.stands_well.ensures.tied
 
 pub returns-in-Err-tested-clause-halts : goal.returns-in-Err-tested-clause-halts
 returns-in-Err-tested-clause-halts g c m may work =
@@ -57,9 +58,9 @@ returns-in-Err-tested-clause-halts g c m may work =
     (subst (λ (st : StoreState). Halts m c.args.actor c.in-Err-tested.halt (g.D.Device.model c.pin.new.self.disk) (with_order_of_use (uses_of c.unpin.new.self) (with_store st (core_seen c.args.self.now)))) (sym c.unpin.ensures.seen)
     (subst (λ (h : Halt). Halts m c.args.actor h (g.D.Device.model c.pin.new.self.disk) (with_order_of_use (uses_of c.unpin.new.self) (with_store (seen_as c.pin.new.self) (core_seen c.args.self.now)))) (sym fails.1)
     (failed_test m (g.D.Device.model c.args.self.now.store.disk) (core_seen c.args.self.now) c.args.actor c.requires.actor may work c.in-Some.wanted (sym (c.requires.wanted m may) ∙ c.in-Some.is)
-    (g.D.Device.model c.pin.new.self.disk) _ (seen_as c.pin.new.self) (looks_kept (ap g.D.Device.model c.pin.ensures.disk) c.pin.ensures.seen c.in-Ok.ensures.looks) c.meta.ensures.store.memory (subst (λ (st : StoreState). Fetched c.in-Some.wanted.page (seen_as c.args.self.now.store) st) (sym c.pin.ensures.seen) c.in-Ok.ensures.fetched)
+    (g.D.Device.model c.pin.new.self.disk) _ (seen_as c.pin.new.self) (looks_kept (ap g.D.Device.model c.pin.ensures.disk) c.pin.ensures.seen c.in-Ok.ensures.looks) c.stands_well.ensures.store.memory (subst (λ (st : StoreState). Fetched c.in-Some.wanted.page (seen_as c.args.self.now.store) st) (sym c.pin.ensures.seen) c.in-Ok.ensures.fetched)
     (λ id stays. ap (λ (st : StoreState). in_memory st id) c.pin.ensures.seen ∙ c.in-Ok.ensures.stays id stays)
-    (uses_of c.pin.new.self) (uses_of c.unpin.new.self) (c.pin.ensures.uses ∙ ap (put_last c.in-Some.wanted.page pinned) c.in-Ok.ensures.uses) c.meta.ensures.tied c.unpin.ensures.uses
+    (uses_of c.pin.new.self) (uses_of c.unpin.new.self) (c.pin.ensures.uses ∙ ap (put_last c.in-Some.wanted.page pinned) c.in-Ok.ensures.uses) c.stands_well.ensures.tied c.unpin.ensures.uses
     fails.0 (fails.2 (m.activity c.args.actor) (may.shows.activities c.args.actor c.requires.actor)))))
 
 pub halt_of-requires : goal.halt_of-requires

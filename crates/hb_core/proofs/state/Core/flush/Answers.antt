@@ -4,11 +4,11 @@ use Rattle.hb_core.proofs.Running.FlushTaken.{flush_failed, flush_forced, flush_
 use Rattle.hb_core.proofs.Running.ForcedShows.{with_held}
 use Rattle.hb_core.proofs.Running.Touched.{IsWell, flush_failed_then, flush_idled_then, helped_well, moved_well, touched_forced, touched_home, touched_turn}
 use Rattle.hb_core.proofs.Running.WrittenShows.{home_none, home_some, home_turn}
-use Rattle.hb_core.specs.declared.outcomes.Outcome.{Outcome}
-use Rattle.hb_core.specs.declared.outcomes.Outcome.TheVariants as outcomes
+use Rattle.hb_steps.specs.declared.outcomes.Outcome.{Outcome}
+use Rattle.hb_steps.specs.declared.outcomes.Outcome.TheVariants as outcomes
 use Rattle.hb_core.specs.Showing.{RunningCore}
 use Rattle.hb_core.specs.CoreSeen.{core_disk, core_seen}
-use Rattle.hb_core.specs.Forcing.{SaysItFlushed}
+use Rattle.hb_steps.specs.Forcing.{SaysItFlushed}
 use Rattle.hb_store.specs.Seen.{held_by, seen_as, uses_of}
 use Rattle.hb_store.specs.WritingHome.{IsDue}
 

@@ -7,7 +7,7 @@ use Rattle.hb_core.proofs.Running.Touched.{as_before_count, flush_failed_then}
 use Rattle.hb_core.specs.CoreSeen.{core_disk, core_seen}
 use Rattle.hb_core.specs.Between.{said_of_flush}
 use Rattle.hb_core.specs.Showing.{RunningCore}
-use Rattle.hb_core.specs.declared.outcomes.Outcome.TheVariants as outcomes
+use Rattle.hb_steps.specs.declared.outcomes.Outcome.TheVariants as outcomes
 use Rattle.hb_store.specs.Seen.{seen_as, uses_of}
 use Rattle.hb_store.specs.declared.stops.StopWhy.TheVariants as stops
 use Rattle.hb_core.proofs.state.Core.help.Goals as goal

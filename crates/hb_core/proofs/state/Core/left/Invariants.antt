@@ -1,8 +1,8 @@
 use Rattle.std.proofs.Common.{◌≡◌, ◌≤◌, count_by, take}
 use Rattle.hb_core.specs.Runs.{has_none}
 use Rattle.hb_core.specs.CoreSeen.{core_disk, core_seen}
-use Rattle.hb_core.specs.KeptMachine.{MachineKeeps}
-use Rattle.hb_core.specs.Machines.{Machine}
+use Rattle.hb_steps.specs.KeptMachine.{MachineKeeps}
+use Rattle.hb_steps.specs.Machines.{Machine}
 use Rattle.hb_core.specs.Showing.{ShowsMachine}
 use Rattle.hb_core.proofs.state.Core.left.Given as goal
 

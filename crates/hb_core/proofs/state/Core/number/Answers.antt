@@ -25,14 +25,14 @@ halt_of-requires g c is =
 pub returns-in-Ok-clause-numbered : goal.returns-in-Ok-clause-numbered
 returns-in-Ok-clause-numbered g c m come =
     number_then m (g.D.Device.model c.args.self.now.store.disk) (core_seen c.args.self.now) c.args.actor c.requires.actor come ((c.in-Ok-true.ensures.needs m come).0 c.in-Ok-true.field-0-test)
-    (g.D.Device.model c.next_page-next.new.self.disk) _ (seen_as c.next_page-next.new.self) c.in-Ok.ensures.looks c.meta.ensures.store.memory c.in-Ok.ensures.brings.fetched c.in-Ok.ensures.brings.stays
-    (uses_of c.next_page-next.new.self) c.in-Ok.ensures.uses c.meta.ensures.tied c.in-Ok.next c.in-Ok.ensures.next c.in-Ok.ensures.room
+    (g.D.Device.model c.next_page-next.new.self.disk) _ (seen_as c.next_page-next.new.self) c.in-Ok.ensures.looks c.stands_well.ensures.store.memory c.in-Ok.ensures.brings.fetched c.in-Ok.ensures.brings.stays
+    (uses_of c.next_page-next.new.self) c.in-Ok.ensures.uses c.stands_well.ensures.tied c.in-Ok.next c.in-Ok.ensures.next c.in-Ok.ensures.room
 
 pub returns-in-Err-next-clause-halts : goal.returns-in-Err-next-clause-halts
 returns-in-Err-next-clause-halts g c m come =
     head_halts m (g.D.Device.model c.args.self.now.store.disk) (core_seen c.args.self.now) c.args.actor c.requires.actor come ((c.in-Ok-true.ensures.needs m come).0 c.in-Ok-true.field-0-test)
-    (g.D.Device.model c.next_page-next.new.self.disk) _ (seen_as c.next_page-next.new.self) c.in-Err-next.ensures.looks c.meta.ensures.store.memory c.in-Err-next.ensures.brings.fetched c.in-Err-next.ensures.brings.stays
-    (uses_of c.next_page-next.new.self) c.in-Err-next.ensures.brings.used (came_by_chain (core_seen c.args.self.now).store.meta (core_seen c.args.self.now).uses (uses_of c.next_page-next.new.self) (λ none. (c.in-Err-next.ensures.unread (inr (inl none))).2)) c.meta.ensures.tied
+    (g.D.Device.model c.next_page-next.new.self.disk) _ (seen_as c.next_page-next.new.self) c.in-Err-next.ensures.looks c.stands_well.ensures.store.memory c.in-Err-next.ensures.brings.fetched c.in-Err-next.ensures.brings.stays
+    (uses_of c.next_page-next.new.self) c.in-Err-next.ensures.brings.used (came_by_chain (core_seen c.args.self.now).store.meta (core_seen c.args.self.now).uses (uses_of c.next_page-next.new.self) (λ none. (c.in-Err-next.ensures.unread (inr (inl none))).2)) c.stands_well.ensures.tied
     c.in-Err-next.stop c.halt_of.result c.halt_of.ensures c.in-Err-next.ensures.why c.in-Err-next.ensures.sound
 
 pub returns-in-Ok-clause-reads : goal.returns-in-Ok-clause-reads

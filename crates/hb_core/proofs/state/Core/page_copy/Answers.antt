@@ -9,7 +9,7 @@ use Rattle.hb_core.specs.declared.copies.CopyStop.TheVariants as copies
 use Rattle.hb_core.proofs.Facts.BetweenCalls.{copied_or_not, crowded_said, look_counts, memory_alone, no_crowd, no_fault, not_copied, not_copied_why, ok_never, reads_said, same_err, why_memory}
 use Rattle.hb_core.specs.Between.{CopiesPage}
 use Rattle.hb_core.specs.CoreSeen.{core_disk, core_seen}
-use Rattle.hb_core.specs.Machines.{Machine}
+use Rattle.hb_steps.specs.Machines.{Machine}
 use Rattle.hb_core.specs.Working.{MayStep}
 use Rattle.hb_core.proofs.state.Core.page_copy.Goals as goal
 use Rattle.hb_lemmas.proofs.Options.{has_value, none_unless}
@@ -20,7 +20,7 @@ copy_here-requires g c = c.in-Ok.ensures.fetched.there
 pub returns-in-Ok-clause-copies : goal.returns-in-Ok-clause-copies
 returns-in-Ok-clause-copies g c m step =
     copied_or_not (g.D.Device.model (core_disk c.args.self.now)) (g.D.Device.model c.fetch.new.self.disk) (core_seen c.args.self.now) m c.args.id step _ (seen_as c.fetch.new.self) (uses_of c.fetch.new.self) c.in-Ok.ensures.looks
-    c.in-Ok.ensures.fetched c.in-Ok.ensures.uses c.in-Ok.ensures.stays c.meta.ensures.store.memory c.meta.ensures.tied c.copy_here.result c.copy_here.ensures.page c.copy_here.ensures.memory
+    c.in-Ok.ensures.fetched c.in-Ok.ensures.uses c.in-Ok.ensures.stays c.stands_well.ensures.store.memory c.stands_well.ensures.tied c.copy_here.result c.copy_here.ensures.page c.copy_here.ensures.memory
 
 pub returns-in-Ok-clause-why : goal.returns-in-Ok-clause-why
 returns-in-Ok-clause-why g c = why_memory (core_seen c.args.self.now).store.meta (g.D.Device.model (core_disk c.args.self.now)) c.args.id c.copy_here.result c.copy_here.ensures.memory

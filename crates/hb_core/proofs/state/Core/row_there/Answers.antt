@@ -3,7 +3,7 @@ use Rattle.std.proofs.lemmas.Result.{IfErr-weaker}
 use Rattle.hb_core.specs.CoreSeen.{core_seen, core_disk}
 use Rattle.hb_activity.specs.Classes.{idle_of}
 use Rattle.hb_core.specs.Counting.{CountsPart}
-use Rattle.hb_core.specs.KeptFits.{class_for}
+use Rattle.hb_steps.specs.KeptFits.{class_for}
 use Rattle.hb_core.proofs.Running.Counted.{brings_part, by_result, counts_so, deed_part, stands_part, stands_then, stays_part}
 use Rattle.hb_core.proofs.Running.Holds.{few_held}
 use Rattle.hb_core.proofs.Running.RowsPerformed.{ok_both, order_few, performed_halts, performed_row, pins_joined, refused_halts, row_may_commit, row_may_hold, row_may_join, row_may_stand}

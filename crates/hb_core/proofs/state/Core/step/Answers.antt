@@ -1,6 +1,6 @@
 use Rattle.hb_core.proofs.state.Core.step.Goals as goal
 use Rattle.std.proofs.Common.{Some, inl, refl, ap, ◌∙◌}
-use Rattle.hb_core.specs.declared.outcomes.Outcome.TheVariants as outcomes
+use Rattle.hb_steps.specs.declared.outcomes.Outcome.TheVariants as outcomes
 use Rattle.hb_core.proofs.Running.AgainstPlaces.{lines_have_boxes, locks_have_boxes}
 use Rattle.hb_core.proofs.Running.Counted.{counts_none, counts_step, line_counts, merging_counts, no_op_still, posting_counts}
 use Rattle.hb_core.proofs.Running.Touched.{as_before_count, line_well, merging_well, posting_well, untouched, untouched_stopped}

@@ -7,8 +7,8 @@ use Rattle.hb_core.specs.CoreSeen.{core_seen, core_disk}
 use Rattle.hb_core.specs.Touching.{IsReadHalt, Touches}
 use Rattle.hb_core.specs.Working.{Halts, IsStop}
 use Rattle.hb_core.specs.Showing.{RunningCore}
-use Rattle.hb_core.proofs.Machines.PlacesLeft.{always_flushes}
-use Rattle.hb_core.proofs.Facts.GivenUpLaws.{gives_up_nothing}
+use Rattle.hb_steps.proofs.Machines.PlacesLeft.{always_flushes}
+use Rattle.hb_steps.proofs.Facts.GivenUpLaws.{gives_up_nothing}
 use Rattle.hb_core.proofs.Running.Counted.{deed_stays, deed_store, no_op_still, part_then, stays_part}
 use Rattle.hb_core.proofs.Running.WorkDone.{blocked, given_up, holds_line, holds_pages, looks_now, may_work, stopped, unready, wants, way_free, works_too}
 use Rattle.hb_core.proofs.Running.WorkTouches.{done_touches, given_up_touches, row_well, stopped_touches}

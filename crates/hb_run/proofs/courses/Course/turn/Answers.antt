@@ -1,7 +1,7 @@
 use Rattle.std.proofs.Common.{arith, ◌-◌}
 use Rattle.std.specs.Vec.{vec_capacity}
 use Rattle.hb_core.specs.CoreSeen.{core_disk}
-use Rattle.hb_core.specs.Performing.{given_by}
+use Rattle.hb_steps.specs.Performing.{given_by}
 use Rattle.hb_run.proofs.Going.{leaves_lines, less_left, room_on}
 use Rattle.hb_run.proofs.courses.Course.turn.Goals as goal
 

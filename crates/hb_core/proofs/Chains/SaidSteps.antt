@@ -1,7 +1,0 @@
--- Steps with what each comes to are steps in sequence.
-use Rattle.std.proofs.Common.{[], ◌∷◌}
-use Rattle.hb_core.specs.Scenes.{SayingIsStepping}
-
-pub saying_is_stepping : SayingIsStepping
-saying_is_stepping [] m new is = is
-saying_is_stepping (step ∷ rest) m new (next, first, later) = (step.1, next, first, saying_is_stepping rest next new later)

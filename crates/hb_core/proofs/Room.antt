@@ -1,6 +1,0 @@
--- What a split and a put know of room.
-pub mod SplitWeights
-pub mod SplitHome
-pub mod SplitHalves
-pub mod RoomKept
-pub mod PutHalves

@@ -1,5 +1,0 @@
-use Rattle.hb_core.proofs.cause_laws.jobs_leave_to_workers.Goals as goal
-use Rattle.hb_core.proofs.Table.Causes.{jobs_leave_to_workers}
-
-pub returns : goal.returns
-returns c = jobs_leave_to_workers

@@ -1,5 +1,0 @@
-use Rattle.hb_core.proofs.file_laws.a_beginning_keeps_what_a_machine_keeps.Goals as goal
-use Rattle.hb_core.proofs.Machines.Beginnings.{beginning_keeps}
-
-pub returns : goal.returns
-returns c = beginning_keeps

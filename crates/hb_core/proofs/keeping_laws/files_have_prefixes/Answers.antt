@@ -1,5 +1,0 @@
-use Rattle.hb_core.proofs.keeping_laws.files_have_prefixes.Goals as goal
-use Rattle.hb_core.proofs.Orders.Prefixes.{files_have_prefixes}
-
-pub returns : goal.returns
-returns c = files_have_prefixes

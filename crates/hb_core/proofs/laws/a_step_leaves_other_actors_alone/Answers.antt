@@ -1,8 +1,0 @@
-use Rattle.hb_core.proofs.laws.a_step_leaves_other_actors_alone.Goals as goal
-use Rattle.hb_core.proofs.Facts.Ways.{order_grows, others_stay}
-
-pub returns-clause-others : goal.returns-clause-others
-returns-clause-others c = others_stay
-
-pub returns-clause-order : goal.returns-clause-order
-returns-clause-order c = order_grows

@@ -1,5 +1,0 @@
-use Rattle.hb_core.proofs.machine_laws.rows_may_be_done.Goals as goal
-use Rattle.hb_core.proofs.Files.RowsDoable.{rows_may_be_done}
-
-pub returns : goal.returns
-returns c = rows_may_be_done c.what_is_made_can_be_written.ensures.operations.fits c.held_is_a_point.ensures c.rows_are_allowed.ensures

@@ -1,5 +1,0 @@
-use Rattle.hb_core.proofs.waiting_laws.what_is_wanted_comes_later.Goals as goal
-use Rattle.hb_core.proofs.Walks.LaterWanted.{wanted_comes_later}
-
-pub returns : goal.returns
-returns c = wanted_comes_later

@@ -1,0 +1,21 @@
+-- What every machine keeps over any disk, the beginning, and lists of steps.
+pub mod Names
+pub mod KeptInSequence
+pub mod Beginnings
+pub mod LocksKept
+pub mod EachKept
+pub mod ClassesKept
+pub mod RunsKept
+pub mod LogKept
+pub mod PieceBoxes
+pub mod AddedJobs
+pub mod BoxesAhead
+pub mod AttributesKept
+pub mod FramesKept
+pub mod GoingOn
+pub mod PinCounts
+pub mod PinsFollow
+pub mod HoldersMoved
+pub mod LatchesApart
+pub mod FlushedFrames
+pub mod PlacesLeft

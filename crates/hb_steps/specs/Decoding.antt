@@ -1,0 +1,27 @@
+-- Which steps decode pages.
+use Rattle.std.specs.Prelude.{◌<◌, Option, Some, None}
+use Rattle.hb_frag.specs.declared.pages.LivePage.{LivePage}
+use Rattle.hb_activity.specs.declared.activities.Activity.{Activity}
+use Rattle.hb_activity.specs.declared.activities.Activity.TheVariants as at
+use Rattle.hb_activity.specs.declared.wanting.Wanted.{Wanted}
+use Rattle.hb_steps.specs.Machines.{Machine}
+use Rattle.hb_steps.specs.Rows.{IsAtHand}
+use Rattle.hb_point.specs.SessionRows.{WantsBoxes}
+use Rattle.hb_search.specs.Searching.{GathersNow}
+
+-- A step decodes pages, which takes memory: a search at a leaf of records, a split where a page is free, a put into one of the halves,
+-- and what the workers do. A walk of an insert, a delete or a lookup reads its pages where they lie.
+abbrev pub GathersThere : Option Wanted → Machine → Activity → Type 0
+GathersThere None m activity = ⊥
+GathersThere (Some wanted) m activity = (page : LivePage) × IsAtHand m activity wanted page × GathersNow activity page
+
+abbrev pub Decodes : Option Wanted → Machine → Activity → Type 0
+Decodes wanted m (at.SessionWalk line held rest found) = WantsBoxes line.command × GathersThere wanted m (at.SessionWalk line held rest found)
+Decodes wanted m (at.SessionSplit line held) = m.store.meta.live < m.store.meta.pages
+Decodes wanted m (at.SessionPut line source fresh) = Unit {0}
+Decodes wanted m at.SessionIdle = ⊥
+Decodes wanted m (at.SessionAwait number reply place) = ⊥
+Decodes wanted m at.PosterIdle = ⊥
+Decodes wanted m at.ConsolidatorIdle = ⊥
+Decodes wanted m at.Flusher = ⊥
+Decodes wanted m worker = Unit {0}
