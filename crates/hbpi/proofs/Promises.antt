@@ -96,7 +96,7 @@ module _ (laws : PromiseLaws) (b : List ℕ) (by : Manner) (run : Run) (status :
         held = prefixes.since;
         crashes = prefixes.even;
         late = λ later. prefixes.late;
-        even = λ is. let even = prefixes.settled (going is) in (even.0, settled_count after, even.1, even.2, even.3);
+        even = λ is. let even = prefixes.settled (going is) in (prefixes.shows.files.durable, settled_count after, even.0, even.1, even.2);
       }
 
   drove_promise : (s : FileState) → OpensTo b s → KeepsPromise by.origin s run status

@@ -15,10 +15,10 @@ use Rattle.hbpi.specs.declared.forms.Form.TheVariants.{Check, Map}
 use Rattle.hbpi.specs.declared.statuses.Status.{Status}
 use Rattle.hbpi.specs.declared.statuses.Status.TheVariants.{Usage}
 
-pub runs_form : {X : Type 0} (M : X → DiskModel) (form : Option Form) (seen : Seen) (old new : X) (status : Status) → RunEnds form (run_of seen (M old) (M new)) status → LeavesFile form (run_of seen (M old) (M new)) status
-    → LeavesBeyond form (run_of seen (M old) (M new)) → (LeavesDisk form status → new ≡ old) → RunsForm M form seen old new status
+pub runs_form : {X : Type 0} (M : X → DiskModel) (form : Option Form) (seen : Seen) (old new : X) (status : Status) → RunEnds form (run_of M seen (M old) (M new)) status → LeavesFile form (run_of M seen (M old) (M new)) status
+    → LeavesBeyond form (run_of M seen (M old) (M new)) → (LeavesDisk form status → new ≡ old) → RunsForm M form seen old new status
 runs_form M form seen old new status ends file beyond untouched =
-    let run : Run = run_of seen (M old) (M new) in
+    let run : Run = run_of M seen (M old) (M new) in
     let disk = ends_disk_later M seen old new status form ends untouched in
     record {
       ends = record {
@@ -47,12 +47,12 @@ refused_words M seen old new status back unread =
     runs_form M None seen old new status (subst (λ (x : Status). UsageEnds seen x) (sym back.status_is) ends) tt tt (λ leaves. back.disk_is)
 
 -- what lies behind the file is as it was where nothing was done but open it
-pub check_runs : {X : Type 0} (M : X → DiskModel) (seen : Seen) (old new : X) (status : Status) → CheckEnds (run_of seen (M old) (M new)) status → RunsForm M (Some Check) seen old new status
+pub check_runs : {X : Type 0} (M : X → DiskModel) (seen : Seen) (old new : X) (status : Status) → CheckEnds (run_of M seen (M old) (M new)) status → RunsForm M (Some Check) seen old new status
 check_runs M seen old new status ends =
     let beyond : KeepsBeyondFile (M old) (M new) = elim ends [ inl shut ↦ shut.2.leaves.beyond | inr checked ↦ checked.2.leaves.beyond ] in
     runs_form M (Some Check) seen old new status ends tt beyond (λ leaves. absurd leaves)
 
-pub map_runs : {X : Type 0} (M : X → DiskModel) (seen : Seen) (old new : X) (status : Status) → MapEnds (run_of seen (M old) (M new)) status → RunsForm M (Some Map) seen old new status
+pub map_runs : {X : Type 0} (M : X → DiskModel) (seen : Seen) (old new : X) (status : Status) → MapEnds (run_of M seen (M old) (M new)) status → RunsForm M (Some Map) seen old new status
 map_runs M seen old new status ends =
     let beyond : KeepsBeyondFile (M old) (M new) = elim ends [ inl shut ↦ shut.2.leaves.beyond | inr mapped ↦ mapped.2.1.leaves.beyond ] in
     runs_form M (Some Map) seen old new status ends tt beyond (λ leaves. absurd leaves)

@@ -68,5 +68,5 @@ pub record IsRunOf (form : Option Form) (run : Run) (status : Status) : Type 0 w
 
 -- All that is said of a run over a disk of some type. Where its form leaves the disk alone, the disk is given back as it was.
 pub record RunsForm {X : Type 0} (M : X → DiskModel) (form : Option Form) (seen : Seen) (old new : X) (status : Status) : Type 0 where
-  pub ends : IsRunOf form (run_of seen (M old) (M new)) status
+  pub ends : IsRunOf form (run_of M seen (M old) (M new)) status
   pub untouched : LeavesDisk form status → new ≡ old

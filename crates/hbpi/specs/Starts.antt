@@ -53,10 +53,10 @@ pub record HasStarted (origin : Origin) (before after : SourceModel) (d e : Disk
   pub may : MayTakeSteps e core
 
 -- Or not: whatever sink the fault line is put into, such a run ends so.
-abbrev pub IsNotStarted : Origin → SourceModel → SourceModel → DiskModel → DiskModel → Status → Type 0
-IsNotStarted origin before after d e status = (sink put : SinkModel) → GetsLine sink put (fault_line status) →
-    ((fault : OpenFault) × (status ≡ status_of fault) × IsShutOut (run_of (seen_by before after sink put [] []) d e) fault)
-    ⊎ IsTurnedAway origin (run_of (seen_by before after sink put [] []) d e) status
+abbrev pub IsNotStarted : {X : Type 0} → (X → DiskModel) → Origin → SourceModel → SourceModel → DiskModel → DiskModel → Status → Type 0
+IsNotStarted M origin before after d e status = (sink put : SinkModel) → GetsLine sink put (fault_line status) →
+    ((fault : OpenFault) × (status ≡ status_of fault) × IsShutOut (run_of M (seen_by before after sink put [] []) d e) fault)
+    ⊎ IsTurnedAway origin (run_of M (seen_by before after sink put [] []) d e) status
 
 -- The laws that a run rests on: what a beginning keeps over a disk that tells, and any steps behind it; that bytes open to one file;
 -- and that each point has one page in it, and each record stands in it once.

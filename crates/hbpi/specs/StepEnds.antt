@@ -15,7 +15,7 @@ use Rattle.hbpi.specs.Schedules.{CameFrom}
 use Rattle.hbpi.specs.SeenRuns.{Run}
 use Rattle.hbpi.specs.declared.statuses.Status.{Status}
 use Rattle.hbpi.specs.declared.statuses.Status.TheVariants.{Done, Usage, BadText, SourceFault, SinkFault, DiskFault, Damaged, NoMemory, BadLayout, Small, Full, Spent}
-use Rattle.hbpi.specs.Driven.{IsShutOut, IsTurnedAway, Manner}
+use Rattle.hbpi.specs.Driven.{BeginsOpened, IsShutOut, IsTurnedAway, Manner}
 
 -- a script came, and steps were taken in this manner
 pub record Drove (by : Manner) (run : Run) (after : Machine) : Type 0 where
@@ -26,6 +26,7 @@ pub record Drove (by : Manner) (run : Run) (after : Machine) : Type 0 where
   pub source : run.seen.source_after.faults ≡ run.seen.source_before.faults
   pub actors : List ℕ
   pub takes : TakesSteps run.before run.after k lines actors run.seen.answered run.seen.order after
+  pub begins : BeginsOpened run takes.before
   pub goes : by.goes steps actors after
 
 -- the whole text of the run, and behind it the fault line of the status, or a front of that

@@ -157,7 +157,7 @@ pub(crate) fn start<S: Source, D: Disk>(
 ) -> Result<(Core<D>, u64), (Status, D)>
     requires few { FitsOrigin origin }
     ensures has { IfOk result (λ r. HasStarted origin (S.model source.old) (S.model source.new) (D.model disk) (D.model (core_disk r.0)) (core_seen r.0) r.1) }
-    ensures refused { IfErr result (λ e. IsNotStarted origin (S.model source.old) (S.model source.new) (D.model disk) (D.model e.1) e.0) }
+    ensures refused { IfErr result (λ e. IsNotStarted D.model origin (S.model source.old) (S.model source.new) (D.model disk) (D.model e.1) e.0) }
 {
     match recover(alloc, disk) {
         Ok((store, records)) => match make_core(alloc, origin, source, store) {

@@ -13,7 +13,7 @@ returns-in-Ok g c source =
     let said = c.as_slice.ensures.value ∙ c.sound_line.ensures ∙ ap (λ (m : Meta). sound_text m c.in-Ok.records) c.meta.ensures.meta in
     let seen : Seen = seen_by source source (g.K.Sink.model c.args.sink) (g.K.Sink.model c.say-status.new.sink) c.new.result.items c.new-in-Ok.result.items in
     check_runs g.D.Device.model seen c.args.disk c.into_disk.result c.say-status.result
-    (subst (λ (x : g.row.D.Denot). CheckEnds (run_of seen (g.D.Device.model c.args.disk) (g.D.Device.model x)) c.say-status.result) (sym c.into_disk.ensures) (inr (
+    (subst (λ (x : g.row.D.Denot). CheckEnds (run_of g.D.Device.model seen (g.D.Device.model c.args.disk) (g.D.Device.model x)) c.say-status.result) (sym c.into_disk.ensures) (inr (
       seen_as c.in-Ok.store,
       c.in-Ok.records,
       record {
