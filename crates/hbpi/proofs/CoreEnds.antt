@@ -16,6 +16,8 @@ use Rattle.hb_set.specs.declared.scripts.Answered.{Answered}
 use Rattle.hb_set.specs.declared.scripts.Line.{Line}
 use Rattle.hbpi.proofs.Begins.{IsBegunHere, begins_script}
 use Rattle.hbpi.proofs.Beyond.{beyond_driven}
+use Rattle.hbpi.proofs.Causes.{took_by_cause}
+use Rattle.hbpi.proofs.OnTheWay.{undamaged, ways_have_one_page}
 use Rattle.hbpi.proofs.Opened.{is_opening}
 use Rattle.hbpi.proofs.Reopened.{takes_before}
 use Rattle.hb_restart.proofs.Facts.KeptStores.{kept_of}
@@ -84,6 +86,7 @@ module _ {X Y : Type 0} (M : X → DiskModel) (by : Manner) (first : X) (core : 
       let with_order = subst (λ (o : List ℕ). TakesSteps (M first) (M last) store.meta.k made.lines actors left.answered o new) (sym facts.hands.order_is) on_disk in
       let with_answers = subst (λ (a : List Answered). TakesSteps (M first) (M last) store.meta.k made.lines actors a seen.order new) (sym facts.hands.answered_is) with_order in
       let opening = is_opening d (M first) store started.count started.disk started.opens started.through started.leaves in
+      let taken = takes_before d (M first) (M last) store.meta.k made.lines actors seen.answered seen.order new laws.walks laws.alone laws.one opening with_answers in
       let drove : Drove by (run_of M seen d (M last)) new = record {
         k = store.meta.k;
         lines = made.lines;
@@ -91,9 +94,12 @@ module _ {X Y : Type 0} (M : X → DiskModel) (by : Manner) (first : X) (core : 
         came = made.came;
         source = made.source;
         actors = actors;
-        takes = takes_before d (M first) (M last) store.meta.k made.lines actors seen.answered seen.order new laws.walks laws.alone laws.one opening with_answers;
+        takes = taken;
         begins = begins_opened M seen d first (M last) store started.count made.lines made.steps here.0 started.opens started.through started.leaves opening here.1
             (subst (λ (x : X). Becomes (ChangesFile here.0.store) (M first) (M x)) (sym facts.hands.disk_is) run.in_file);
+        full = took_by_cause laws taken;
+        pages = λ tells. ways_have_one_page laws taken tells;
+        undamaged = λ tells. undamaged laws taken tells;
         goes = subst (λ (c : RunningCore). by.goes c.steps actors new) made.core_is went.2;
       } in
       inr (inr (new, drove, went.3 drove))

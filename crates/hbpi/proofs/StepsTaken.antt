@@ -1,5 +1,5 @@
 -- What a run of a core over a store that was just opened comes to, as the program says it.
-use Rattle.std.proofs.Common.{◌≡◌, ◌≢◌, ◌⊎◌, inl, inr, Bool, ℕ, ◌≤◌, List, [], ◌++◌, Option, None, IsSome, refl, sym, ap, subst, ◌∙◌, arith}
+use Rattle.std.proofs.Common.{◌≡◌, ◌≢◌, ◌⊎◌, inl, inr, Bool, ℕ, ◌≤◌, List, [], ◌++◌, Option, None, IsSome, refl, sym, ap, subst, ◌∙◌}
 use Rattle.hb_steps.specs.KeepingLaws.{BegunKeepsAll, HasKeptAll}
 use Rattle.hb_steps.specs.Machines.{Files, Machine, settled_count}
 use Rattle.hb_steps.specs.MomentLaws.{IsPrefixImage}
@@ -23,7 +23,6 @@ use Rattle.hb_set.specs.Machine.{RecordSet}
 use Rattle.hb_set.specs.Order.{result_of}
 use Rattle.hb_set.specs.declared.scripts.Answered.{Answered}
 use Rattle.hb_set.specs.declared.scripts.Line.{Line}
-use Rattle.hb_store.specs.Keeps.{StoreKeeps}
 use Rattle.hb_store.specs.Opening.{IsEven}
 use Rattle.hb_store.specs.States.{IsNew, StoreState}
 use Rattle.hb_store.specs.declared.stops.StopWhy.{StopWhy}

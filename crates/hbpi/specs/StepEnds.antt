@@ -1,5 +1,5 @@
 -- How a run of `drive`, `run` or `work` ends.
-use Rattle.std.specs.Prelude.{◌≡◌, ◌⊎◌, ℕ, ◌≤◌, List, None, Some}
+use Rattle.std.specs.Prelude.{◌≡◌, IsSome, All, ◌⊎◌, ℕ, ◌≤◌, List, None, Some}
 use Rattle.hb_steps.specs.Machines.{Machine}
 use Rattle.hb_core.specs.Runs.{HasReadFault}
 use Rattle.hb_outside.specs.Calls.{SinkModel}
@@ -9,7 +9,9 @@ use Rattle.hb_set.specs.declared.scripts.Line.{Line}
 use Rattle.hb_store.specs.declared.stops.StopWhy.TheVariants as stops
 use Rattle.hb_store.specs.declared.stops.Why.{Why}
 use Rattle.hbpi.specs.Codes.{damage_of, status_of}
+use Rattle.hb_steps.specs.DamageLaws.{IsUndamaged}
 use Rattle.hbpi.specs.Drives.{TakesSteps}
+use Rattle.hbpi.specs.OnTheWay.{IsFullByCause, WaysHaveOnePage}
 use Rattle.hbpi.specs.Outcome.{GetsLine, fault_line}
 use Rattle.hbpi.specs.Schedules.{CameFrom}
 use Rattle.hbpi.specs.SeenRuns.{Run}
@@ -27,6 +29,10 @@ pub record Drove (by : Manner) (run : Run) (after : Machine) : Type 0 where
   pub actors : List ℕ
   pub takes : TakesSteps run.before run.after k lines actors run.seen.answered run.seen.order after
   pub begins : BeginsOpened run takes.before
+  -- over every disk; and over one that tells: each point has one page, and no page was met damaged
+  pub full : All (IsFullByCause takes.before actors) after.answered
+  pub pages : IsSome run.before.told → WaysHaveOnePage takes.before
+  pub undamaged : IsSome run.before.told → IsUndamaged after
   pub goes : by.goes steps actors after
 
 -- the whole text of the run, and behind it the fault line of the status, or a front of that

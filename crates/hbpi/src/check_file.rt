@@ -8,6 +8,7 @@ ghost use Rattle.hbpi.specs.declared.forms.Form.TheVariants as forms;
 use crate::dry::refused;
 use crate::finished::Finished;
 use crate::saying::{say, sound_line};
+use crate::starting::knows_laws;
 use crate::statuses::Status;
 use hb_disk::Device;
 use hb_outside::Sink;
@@ -19,6 +20,7 @@ use std::alloc::Global;
 pub(crate) fn check_file<K: Sink, D: Device>(alloc: Global, mut sink: K, disk: D) -> Finished<K, D>
     ensures { (source : SourceModel) → RunsForm D.model (Some forms.Check) (seen_by source source (K.model sink) (K.model result.sink) result.answered.items result.order.items) disk result.disk result.status }
 {
+    knows_laws();
     match recover(alloc, disk) {
         Ok((store, records)) => {
             let status = say(&mut sink, sound_line(store.meta(), records).as_slice());

@@ -9,6 +9,7 @@ ghost use Rattle.hbpi.specs.declared.forms.Form.TheVariants as forms;
 use crate::dry::refused;
 use crate::faults::put_fault;
 use crate::finished::Finished;
+use crate::starting::knows_laws;
 use crate::statuses::{Damage, Status};
 use hb_disk::Device;
 use hb_map::{MapStop, put_map};
@@ -34,6 +35,7 @@ fn status_of(mapped: &Result<(), MapStop>) -> Status
 pub(crate) fn map_file<K: Sink, D: Device>(alloc: Global, mut sink: K, disk: D) -> Finished<K, D>
     ensures { (source : SourceModel) → RunsForm D.model (Some forms.Map) (seen_by source source (K.model sink) (K.model result.sink) result.answered.items result.order.items) disk result.disk result.status }
 {
+    knows_laws();
     match recover(alloc, disk) {
         Ok((mut store, _records)) => {
             // The frames are those of the pages in memory, as the map wants it.

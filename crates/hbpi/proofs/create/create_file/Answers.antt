@@ -20,7 +20,7 @@ returns-in-Ok g c source =
     let file : LeavesFile form run c.say-status.result = search rules in
     let beyond : KeepsBeyond (size_of c.args.pages c.args.log) (M c.args.disk) (M c.in-Ok.disk) = search rules in
     let unmade : IsUnmade c.say-status.result → c.in-Ok.disk ≡ c.args.disk = search rules in
-    runs_form M form seen c.args.disk c.in-Ok.disk c.say-status.result ends file beyond unmade
+    runs_form M form seen c.args.disk c.in-Ok.disk c.say-status.result ends file beyond unmade tt
 
 pub returns-in-Err : goal.returns-in-Err
 returns-in-Err g c source =
@@ -32,4 +32,4 @@ returns-in-Err g c source =
     let file : LeavesFile form run c.refused.result.status = search rules in
     let beyond : KeepsBeyond (size_of c.args.pages c.args.log) (M c.args.disk) (M c.refused.result.disk) = search rules in
     let unmade : IsUnmade c.refused.result.status → c.refused.result.disk ≡ c.args.disk = search rules in
-    runs_form M form seen c.args.disk c.refused.result.disk c.refused.result.status ends file beyond unmade
+    runs_form M form seen c.args.disk c.refused.result.disk c.refused.result.status ends file beyond unmade tt
