@@ -29,8 +29,9 @@ pub record Drove (by : Manner) (run : Run) (after : Machine) : Type 0 where
   pub actors : List ℕ
   pub takes : TakesSteps run.before run.after k lines actors run.seen.answered run.seen.order after
   pub begins : BeginsOpened run takes.before
-  -- over every disk; and over one that tells: each point has one page, and no page was met damaged
+  -- a line is `full` only by its cause
   pub full : All (IsFullByCause takes.before actors) after.answered
+  -- over a disk that tells each point has one page on any way from there, and no page was met damaged
   pub pages : IsSome run.before.told → WaysHaveOnePage takes.before
   pub undamaged : IsSome run.before.told → IsUndamaged after
   pub goes : by.goes steps actors after
