@@ -2,6 +2,7 @@
 use Rattle.std.specs.Prelude.{◌≡◌, ◌↔◌, ◌≤◌, Option, Some, None, IsSome}
 use Rattle.hb_disk.specs.Model.{DiskModel}
 use Rattle.hb_gen.specs.Spelling.{generated_text}
+use Rattle.hb_outside.specs.Calls.{SinkModel, SourceModel}
 use Rattle.hb_restart.specs.Beyond.{KeepsBeyond, KeepsBeyondFile}
 use Rattle.hb_restart.specs.Layouts.{first_fault, size_of}
 use Rattle.hb_restart.specs.NewFiles.{new_file}
@@ -13,8 +14,9 @@ use Rattle.hbpi.specs.Ends.{DryEnds, GenEnds, IsComplete, LeavesDisk, NamesBadLi
 use Rattle.hbpi.specs.MadeEnds.{CreateEnds, HasMade, IsMadeWhole}
 use Rattle.hbpi.specs.Mapped.{MapEnds}
 use Rattle.hbpi.specs.Promised.{KeepsForm}
-use Rattle.hbpi.specs.SeenRuns.{Run, Seen, run_of}
+use Rattle.hbpi.specs.SeenRuns.{Run, Seen, run_of, seen_by}
 use Rattle.hbpi.specs.TidyRuns.{TidyEnds}
+use Rattle.hbpi.specs.declared.finished.Finished.{Finished}
 use Rattle.hbpi.specs.declared.forms.Form.{Form}
 use Rattle.hbpi.specs.declared.forms.Form.TheVariants.{Check, Create, Drive, Dry, Gen, Map, Tidy, Work}
 use Rattle.hbpi.specs.declared.forms.Form.TheVariants as forms
@@ -79,3 +81,8 @@ pub record IsRunOf (form : Option Form) (run : Run) (status : Status) : Type 0 w
 pub record RunsForm {X : Type 0} (M : X → DiskModel) (form : Option Form) (seen : Seen) (old new : X) (status : Status) : Type 0 where
   pub ends : IsRunOf form (run_of M seen (M old) (M new)) status
   pub untouched : LeavesDisk form status → new ≡ old
+
+-- A run of a form that was given a source, a sink and a disk, and gave back this.
+abbrev pub RunsFromTo : {X Y : Type 0} → (X → DiskModel) → (Y → SinkModel) → Option Form → SourceModel → SourceModel → Y → X → Finished Y X → Type 0
+RunsFromTo disk_seen sink_seen form before after sink disk finished =
+    RunsForm disk_seen form (seen_by before after (sink_seen sink) (sink_seen finished.sink) finished.answered.items finished.order.items) disk finished.disk finished.status
