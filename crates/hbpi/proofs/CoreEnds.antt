@@ -21,10 +21,9 @@ use Rattle.hbpi.proofs.OnTheWay.{undamaged, ways_have_one_page}
 use Rattle.hbpi.proofs.Opened.{is_opening}
 use Rattle.hbpi.proofs.Reopened.{takes_before}
 use Rattle.hb_restart.proofs.Facts.KeptStores.{kept_of}
-use Rattle.hbpi.proofs.StepsTaken.{begins_opened, is_unbegun, run_beyond, takes_steps}
-use Rattle.hbpi.specs.Driven.{IsOpened, Manner}
+use Rattle.hbpi.proofs.StepsTaken.{TakesFrom, begins_opened, is_unbegun, run_beyond, takes_steps}
+use Rattle.hbpi.specs.Driven.{BeginsOpened, IsOpened, Manner}
 use Rattle.hbpi.specs.StepEnds.{Drove, RanEnds, StepsEnd}
-use Rattle.hbpi.specs.Drives.{TakesSteps}
 use Rattle.hbpi.specs.Handing.{HandsOver, RunLeft}
 use Rattle.hbpi.specs.Outcome.{GetsLine, fault_line}
 use Rattle.hbpi.specs.Schedules.{CameFrom, CameNot}
@@ -80,13 +79,13 @@ module _ {X Y : Type 0} (M : X → DiskModel) (by : Manner) (first : X) (core : 
       let actors = went.0 in
       let run = went.1 in
       let new = run.new in
-      let takes : TakesSteps (M first) (M left.disk) store.meta.k made.lines actors left.answered left.core.order new =
+      let takes : TakesFrom here.0 (M first) (M left.disk) store.meta.k made.lines actors left.answered left.core.order new =
       takes_steps (M first) (M left.disk) made.lines made.steps actors store left.core left.answered here.0 laws.beginning laws.begun started.disk started.opens.is_new here.1 run in
-      let on_disk = subst (λ (x : X). TakesSteps (M first) (M x) store.meta.k made.lines actors left.answered left.core.order new) (sym facts.hands.disk_is) takes in
-      let with_order = subst (λ (o : List ℕ). TakesSteps (M first) (M last) store.meta.k made.lines actors left.answered o new) (sym facts.hands.order_is) on_disk in
-      let with_answers = subst (λ (a : List Answered). TakesSteps (M first) (M last) store.meta.k made.lines actors a seen.order new) (sym facts.hands.answered_is) with_order in
+      let on_disk = subst (λ (x : X). TakesFrom here.0 (M first) (M x) store.meta.k made.lines actors left.answered left.core.order new) (sym facts.hands.disk_is) takes in
+      let with_order = subst (λ (o : List ℕ). TakesFrom here.0 (M first) (M last) store.meta.k made.lines actors left.answered o new) (sym facts.hands.order_is) on_disk in
+      let with_answers = subst (λ (a : List Answered). TakesFrom here.0 (M first) (M last) store.meta.k made.lines actors a seen.order new) (sym facts.hands.answered_is) with_order in
       let opening = is_opening d (M first) store started.count started.disk started.opens started.through started.leaves in
-      let taken = takes_before d (M first) (M last) store.meta.k made.lines actors seen.answered seen.order new laws.walks laws.alone laws.one opening with_answers in
+      let taken = takes_before d (M first) (M last) store.meta.k made.lines actors seen.answered seen.order new laws.walks laws.alone laws.one opening with_answers.0 in
       let drove : Drove by (run_of M seen d (M last)) new = record {
         k = store.meta.k;
         lines = made.lines;
@@ -94,12 +93,12 @@ module _ {X Y : Type 0} (M : X → DiskModel) (by : Manner) (first : X) (core : 
         came = made.came;
         source = made.source;
         actors = actors;
-        takes = taken;
-        begins = begins_opened M seen d first (M last) store started.count made.lines made.steps here.0 started.opens started.through started.leaves opening here.1
-            (subst (λ (x : X). Becomes (ChangesFile here.0.store) (M first) (M x)) (sym facts.hands.disk_is) run.in_file);
-        full = took_by_cause laws taken;
-        pages = λ tells. ways_have_one_page laws taken tells;
-        undamaged = λ tells. undamaged laws taken tells;
+        takes = taken.0;
+        begins = subst (BeginsOpened (run_of M seen d (M last))) (sym (taken.1 ∙ with_answers.1)) (begins_opened M seen d first (M last) store started.count made.lines made.steps here.0 started.opens started.through started.leaves opening here.1
+            (subst (λ (x : X). Becomes (ChangesFile here.0.store) (M first) (M x)) (sym facts.hands.disk_is) run.in_file));
+        full = took_by_cause laws taken.0;
+        pages = λ tells. ways_have_one_page laws taken.0 tells;
+        undamaged = λ tells. undamaged laws taken.0 tells;
         goes = subst (λ (c : RunningCore). by.goes c.steps actors new) made.core_is went.2;
       } in
       inr (inr (new, drove, went.3 drove))

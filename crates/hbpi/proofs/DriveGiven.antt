@@ -118,6 +118,6 @@ is_driven by run status one good ends s left calm = elim ends [
   | inl shut ↦ shut_gives by s left run calm status shut.0 good shut.1 shut.2
   | inr opened ↦ elim opened [
     | inl away ↦ came_gives by.origin s.meta.k away.k left run.seen status (opened_k away.k run.before run.after calm.bytes s away.opened calm.told calm.opens) calm.text calm.source away.why
-    | inr ran ↦ ran_gives by s left run calm status ran.0 one all ran.1 ran.2
+    | inr ran ↦ ran_gives by s left run calm status ran.0 one ran.1 ran.2
   ]
 ]

@@ -1,5 +1,5 @@
 -- A file that doesn't open is refused, in one way.
-use Rattle.std.proofs.Common.{◌≡◌, ◌⊎◌, inl, inr, ℕ, List, Option, Some, IfSome, refl, ap, subst, ◌∙◌}
+use Rattle.std.proofs.Common.{◌≡◌, ◌⊎◌, inl, inr, ℕ, List, Some, refl, ap, subst, ◌∙◌}
 use Rattle.hb_lemmas.proofs.Options.{at_value}
 use Rattle.hb_ops.specs.Files.{FileState}
 use Rattle.hb_ops.specs.Sound.{IsSound}
@@ -67,23 +67,20 @@ refuses_opening run status good once ends bytes told calm = elim ends [
   | inr opened ↦ opened_sound bytes status good (opened bytes told)
 ]
 
-found_sound : (told : Option (List ℕ)) (R : List ℕ → FileState → Type 0) → IfSome told (λ b. (s : FileState) × OpensTo b s × IsSound s × R b s) → (b : List ℕ) → told ≡ Some b → OpensSound b
-found_sound told R opens b is = let here = at_value told _ b is opens in (here.0, here.1, here.2)
-
 pub refuses_file : (by : Manner) (run : Run) (status : Status) → GoodIsNotRefused → IsRefusedOnce → StepsEnd by run status → RefusesFile run status
 refuses_file by run status good once ends = refuses_opening run status good once (elim ends [
   | inl shut ↦ inl shut
-  | inr opened ↦ elim opened [ inl away ↦ inr (found_sound run.before.told _ away.opened.opens.file) | inr ran ↦ inr (found_sound run.before.told _ ran.1.takes.told) ]
+  | inr opened ↦ elim opened [ inl away ↦ inr (λ b is. let here = at_value run.before.told _ b is away.opened.opens.file in (here.0, here.1, here.2)) | inr ran ↦ inr (λ b is. let here = at_value run.before.told _ b is ran.1.takes.told in (here.0, here.1, here.2)) ]
 ])
 
 pub check_refuses : (run : Run) (status : Status) → GoodIsNotRefused → IsRefusedOnce → CheckEnds run status → RefusesFile run status
-check_refuses run status good once ends = refuses_opening run status good once (elim ends [ inl shut ↦ inl shut | inr done ↦ inr (found_sound run.before.told _ done.2.opens.file) ])
+check_refuses run status good once ends = refuses_opening run status good once (elim ends [ inl shut ↦ inl shut | inr done ↦ inr (λ b is. let here = at_value run.before.told _ b is done.2.opens.file in (here.0, here.1, here.2)) ])
 
 pub map_refuses : (run : Run) (status : Status) → GoodIsNotRefused → IsRefusedOnce → MapEnds run status → RefusesFile run status
-map_refuses run status good once ends = refuses_opening run status good once (elim ends [ inl shut ↦ inl shut | inr done ↦ inr (found_sound run.before.told _ done.2.1.opens.file) ])
+map_refuses run status good once ends = refuses_opening run status good once (elim ends [ inl shut ↦ inl shut | inr done ↦ inr (λ b is. let here = at_value run.before.told _ b is done.2.1.opens.file in (here.0, here.1, here.2)) ])
 
 pub tidy_refuses : (run : Run) (status : Status) → GoodIsNotRefused → IsRefusedOnce → TidyEnds run status → RefusesFile run status
 tidy_refuses run status good once ends = refuses_opening run status good once (elim ends [
   | inl shut ↦ inl shut
-  | inr opened ↦ elim opened [ inl away ↦ inr (found_sound run.before.told _ away.opened.opens.file) | inr tidied ↦ inr (found_sound run.before.told _ tidied.2.told) ]
+  | inr opened ↦ elim opened [ inl away ↦ inr (λ b is. let here = at_value run.before.told _ b is away.opened.opens.file in (here.0, here.1, here.2)) | inr tidied ↦ inr (λ b is. let here = at_value run.before.told _ b is tidied.2.told in (here.0, here.1, here.2)) ]
 ])

@@ -19,6 +19,7 @@ use Rattle.hb_sound.specs.PointWalks.{IsPointOf}
 use Rattle.hb_store.specs.Opening.{IsEven, OpensTo, OpensToOne}
 use Rattle.hb_store.specs.declared.stops.StopWhy.{StopWhy}
 use Rattle.hbpi.proofs.Opened.{IsOpening, from_before, late_before, silent_behind, tells_behind}
+use Rattle.hbpi.proofs.StepsTaken.{TakesFrom}
 use Rattle.hbpi.specs.Drives.{LeavesPrefixes, TakesSteps}
 
 -- in a sound file each point has one page
@@ -51,8 +52,9 @@ counts_before d m e answered before after opening counts = record {
 }
 
 pub takes_before : (d m e : DiskModel) (k : ℕ) (lines : List Line) (steps : List ℕ) (answered : List Answered) (order : List ℕ) (after : Machine) → RootHasWalks → NoPointIsHeldTwice → OpensToOne → IsOpening d m
-    → TakesSteps m e k lines steps answered order after → TakesSteps d e k lines steps answered order after
-takes_before d m e k lines steps answered order after walks alone one opening takes = record {
+    → (takes : TakesSteps m e k lines steps answered order after) → TakesFrom takes.before d e k lines steps answered order after
+takes_before d m e k lines steps answered order after walks alone one opening takes =
+    let before : TakesSteps d e k lines steps answered order after = record {
   before = takes.before;
   begun = takes.begun;
   lines_are = takes.lines_are;
@@ -72,4 +74,5 @@ takes_before d m e k lines steps answered order after walks alone one opening ta
         prefixes_before s d m e answered after opening (has_value d.told b is) (opening.late b is s opens) sound (pages_of walks alone s sound) even here.1,
       )) takes.told;
   silent = λ none. takes.silent (silent_behind d m opening none);
-}
+} in
+    (before, refl)

@@ -66,11 +66,15 @@ leaves_prefixes d e m steps answered c s keeps all tells over run =
       settled = λ going. settled_even e (contents_of s) m run.new kept.0 kept.1 shown going;
     }
 
+-- such steps from this machine on
+abbrev pub TakesFrom : Machine → DiskModel → DiskModel → ℕ → List Line → List ℕ → List Answered → List ℕ → Machine → Type 0
+TakesFrom m d e k lines actors answered order after = (takes : TakesSteps d e k lines actors answered order after) × (takes.before ≡ m)
+
 pub takes_steps : (d e : DiskModel) (lines : List Line) (steps actors : List ℕ) (store : StoreState) (c : RunningCore) (answered : List Answered) (m : Machine) → BeginningKeepsAll → BegunKeepsAll → IsDisk d → IsNew store.turn store.meta store
-    → IsBegunHere d lines steps store m → (run : HasRun d m actors answered e c) → TakesSteps d e store.meta.k lines actors answered c.order run.new
+    → IsBegunHere d lines steps store m → (run : HasRun d m actors answered e c) → TakesFrom m d e store.meta.k lines actors answered c.order run.new
 takes_steps d e lines steps actors store c answered m keeps all disk new here run =
     let came : run.new.answered ≡ run.came = run.answered ∙ ap (λ (a : List Answered). a ++ run.came) here.begun.unanswered in
-    record {
+    let takes : TakesSteps d e store.meta.k lines actors answered c.order run.new = record {
       before = m;
       begun = here.begun;
       lines_are = here.may.shows.lines;
@@ -85,7 +89,8 @@ takes_steps d e lines steps actors store c answered m keeps all disk new here ru
           let even = even_store d store from.0 [] from.2 new.running in
           (from.0, even.images b (disk.as_read b is), from.1.sound, from.1, leaves_prefixes d e m actors answered c from.0 keeps all (has_value d.told b is) from.1 run));
       silent = λ none. (here.may.shows.silent none, run.in_file.silent none);
-    }
+    } in
+    (takes, refl)
 
 -- the machine that has taken no step stands over the disk as the opening left it
 pub begins_opened : {X : Type 0} (M : X → DiskModel) (seen : Seen) (d : DiskModel) (first : X) (e : DiskModel) (store : StoreState) (count : ℕ) (lines : List Line) (steps : List ℕ) (m : Machine) → OpensStore d (M first) store count → RunsThrough store.meta.high d (M first)
