@@ -55,24 +55,24 @@ pub takes_before : (d m e : DiskModel) (k : ℕ) (lines : List Line) (steps : Li
     → (takes : TakesSteps m e k lines steps answered order after) → TakesFrom takes.before d e k lines steps answered order after
 takes_before d m e k lines steps answered order after walks alone one opening takes =
     let before : TakesSteps d e k lines steps answered order after = record {
-  before = takes.before;
-  begun = takes.begun;
-  lines_are = takes.lines_are;
-  attributes = takes.attributes;
-  actors = takes.actors;
-  reached = takes.reached;
-  came = record { alike = takes.came.alike; same = λ tells. takes.came.same (tells_behind d m opening tells) };
-  order_is = takes.order_is;
-  faults = counts_before d m e answered None after.stop opening takes.faults;
-  told = from_before d m (λ s. IsBegunOver takes.before s × LeavesPrefixes s m e answered after) _ _ one opening
-      (λ b f. (f.0, f.1, (f.3, f.4)))
-      (λ b s is opens sound even here. (
-        s,
-        opens,
-        sound,
-        here.0,
-        prefixes_before s d m e answered after opening (has_value d.told b is) (opening.late b is s opens) sound (pages_of walks alone s sound) even here.1,
-      )) takes.told;
-  silent = λ none. takes.silent (silent_behind d m opening none);
-} in
+      before = takes.before;
+      begun = takes.begun;
+      lines_are = takes.lines_are;
+      attributes = takes.attributes;
+      actors = takes.actors;
+      reached = takes.reached;
+      came = record { alike = takes.came.alike; same = λ tells. takes.came.same (tells_behind d m opening tells) };
+      order_is = takes.order_is;
+      faults = counts_before d m e answered None after.stop opening takes.faults;
+      told = from_before d m (λ s. IsBegunOver takes.before s × LeavesPrefixes s m e answered after) _ _ one opening
+          (λ b f. (f.0, f.1, (f.3, f.4)))
+          (λ b s is opens sound even here. (
+            s,
+            opens,
+            sound,
+            here.0,
+            prefixes_before s d m e answered after opening (has_value d.told b is) (opening.late b is s opens) sound (pages_of walks alone s sound) even here.1,
+          )) takes.told;
+      silent = λ none. takes.silent (silent_behind d m opening none);
+    } in
     (before, refl)

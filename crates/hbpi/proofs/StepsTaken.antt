@@ -44,8 +44,7 @@ IsSettledFile e n m s = IsEven e s × IsSound s × (contents_of s ≡ result_of 
 
 settled_even : (e : DiskModel) (n : RecordSet) (old m : Machine) (files : Files) → HasKeptAll n old m files → (shown : ShowsFiles e m) → m.stop ≡ None → IsSettledFile e n m shown.files.durable
 settled_even e n old m files kept shown going =
-    let same : shown.files ≡ files = cc (shown.told, kept.keeps.told) in
-    (
+    let same : shown.files ≡ files = cc (shown.told, kept.keeps.told) in (
       even_store e m.store shown.files.durable shown.files.later shown.kept (kept.keeps.kept.runs going),
       subst (λ (f : Files). IsSound f.durable) (sym same) kept.keeps.sound_file.durable,
       subst (λ (f : Files). contents_of f.durable ≡ result_of n (take (settled_count m) m.order)) (sym same) kept.prefixes.durable.contents,

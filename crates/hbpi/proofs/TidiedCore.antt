@@ -113,8 +113,7 @@ module _ (laws : RunningLaws) (d : DiskModel) (m : Machine) (e : DiskModel) (fir
       → (went : HasTidied d m f new) × EndsForced d f m went.new (Err tidies.WriteFault)
   forced_badly fault steps touches stopped begun =
       let flush = on (Err fault) steps touches in
-      let went = flush.went in
-      (
+      let went = flush.went in (
         went,
         record {
           events = worked.events;
