@@ -107,7 +107,7 @@ module _ (s : FileState) (m : Machine) (done : HasTidyFile s m) where
   told none = let never : None ≡ Some s = sym (ap (λ (o : Option Files). option_map current_file o) none) ∙ done.file in cc
 
   happens : (event : Event) (next : Machine) → Happens event m next → IsNoWork event × HasTidyFile s next
-  happens (Steps actor outcome) next (cause, step) = let is = by_flusher actor cause in (is, flushed actor outcome next is step)
+  happens (Steps actor outcome op) next (cause, step, did) = let is = by_flusher actor cause in (is, flushed actor outcome next is step)
   happens (Waits job) next (waits, owed) = absurd (none_owed s job done.tidy (subst (λ (o : Option FileState). IfSome o (λ t. IsJobOwed t job)) done.file owed))
   happens (Comes id) next comes = (tt, so_still next (ap (λ (x : Machine). x.activity) comes.rest) (ap (λ (x : Machine). x.jobs) comes.rest) (ap file_now comes.rest) comes.tied.pool (subst AreUnpinned (sym comes.uses) (fetched_free m.uses id done.unpinned)))
   happens (Breaks id why) next (is, bad) = absurd (told (only_silent m.files id m.store why bad))
@@ -168,7 +168,7 @@ waiting_later m id next none comes = ap (λ (s : StoreState). s.log.groups) come
 
 none_follow : (events : List Event) (s : FileState) (m new : Machine) → HasTidyFile s m → FlushesNoMore m → WorksOff events m new → steps_in events ≡ 0
 none_follow [] s m new done ended is = refl
-none_follow (Steps actor outcome ∷ rest) s m new done ended (next, here, later) = absurd (by ended (flush_full s m done actor here.0))
+none_follow (Steps actor outcome op ∷ rest) s m new done ended (next, here, later) = absurd (by ended (flush_full s m done actor here.0))
   where
     by : FlushesNoMore m → (m.stop ≡ None) × (places m.uses ≡ 0) → ⊥
     by (inl place) (runs, full) = never_full (places m.uses) place full
@@ -179,13 +179,13 @@ none_follow (Breaks id why ∷ rest) s m new done ended (next, here, later) = ab
 
 one_follows : (events : List Event) (s : FileState) (m new : Machine) → HasTidyFile s m → m.store.log.groups ≡ [] → WorksOff events m new → steps_in events ≤ 1
 one_follows [] s m new done none is = omega arith
-one_follows (Steps actor outcome ∷ rest) s m new done none (next, here, later) =
+one_follows (Steps actor outcome op ∷ rest) s m new done none (next, here, later) =
     let full = flush_full s m done actor here.0 in
     let step = subst (λ (n : ℕ). StepsTo m n outcome next) (by_flusher s m done actor here.0) here.1 in
     by (step_comes s m done full.1 outcome next full.0 step)
   where
-    by : FlushesNoMore next ⊎ ((m.store.log.groups ≢ []) × (next.store.log.groups ≡ [])) → steps_in (Steps actor outcome ∷ rest) ≤ 1
-    by (inl ended) = let few = none_follow rest s next new (happens s m done (Steps actor outcome) next here).1 ended later in omega (arith, few)
+    by : FlushesNoMore next ⊎ ((m.store.log.groups ≢ []) × (next.store.log.groups ≡ [])) → steps_in (Steps actor outcome op ∷ rest) ≤ 1
+    by (inl ended) = let few = none_follow rest s next new (happens s m done (Steps actor outcome op) next here).1 ended later in omega (arith, few)
     by (inr (waits, sunk)) = absurd (waits none)
 one_follows (Waits job ∷ rest) s m new done none (next, here, later) = absurd ((happens s m done (Waits job) next here).0)
 one_follows (Comes id ∷ rest) s m new done none (next, here, later) = one_follows rest s next new (happens s m done (Comes id) next here).1 (waiting_later m id next none here) later
@@ -193,14 +193,14 @@ one_follows (Breaks id why ∷ rest) s m new done none (next, here, later) = abs
 
 two_follow : (events : List Event) (s : FileState) (m new : Machine) → HasTidyFile s m → WorksOff events m new → steps_in events ≤ 2
 two_follow [] s m new done is = omega arith
-two_follow (Steps actor outcome ∷ rest) s m new done (next, here, later) =
+two_follow (Steps actor outcome op ∷ rest) s m new done (next, here, later) =
     let full = flush_full s m done actor here.0 in
     let step = subst (λ (n : ℕ). StepsTo m n outcome next) (by_flusher s m done actor here.0) here.1 in
     by (step_comes s m done full.1 outcome next full.0 step)
   where
-    by : FlushesNoMore next ⊎ ((m.store.log.groups ≢ []) × (next.store.log.groups ≡ [])) → steps_in (Steps actor outcome ∷ rest) ≤ 2
-    by (inl ended) = let few = none_follow rest s next new (happens s m done (Steps actor outcome) next here).1 ended later in omega (arith, few)
-    by (inr (waits, none)) = let few = one_follows rest s next new (happens s m done (Steps actor outcome) next here).1 none later in omega (arith, few)
+    by : FlushesNoMore next ⊎ ((m.store.log.groups ≢ []) × (next.store.log.groups ≡ [])) → steps_in (Steps actor outcome op ∷ rest) ≤ 2
+    by (inl ended) = let few = none_follow rest s next new (happens s m done (Steps actor outcome op) next here).1 ended later in omega (arith, few)
+    by (inr (waits, none)) = let few = one_follows rest s next new (happens s m done (Steps actor outcome op) next here).1 none later in omega (arith, few)
 two_follow (Waits job ∷ rest) s m new done (next, here, later) = absurd ((happens s m done (Waits job) next here).0)
 two_follow (Comes id ∷ rest) s m new done (next, here, later) = two_follow rest s next new (happens s m done (Comes id) next here).1 later
 two_follow (Breaks id why ∷ rest) s m new done (next, here, later) = absurd ((happens s m done (Breaks id why) next here).0)
