@@ -7,9 +7,9 @@ pub fn files_grow_by_operations()
     ensures { FilesGrowByOperations }
 {}
 
-/// In a file that is tidy, over a disk that tells, nothing is worked off: no worker takes a step, no job comes to wait, and the file
-/// stays. At most two flushes make room for pages that are looked at. So a tidying that begins with more than two steps left isn't
-/// `Spent` there.
+/// In a file that is tidy, over a disk that tells, nothing is worked off: no worker takes a step, no operation is done, no job comes to
+/// wait, and the file stays. At most two flushes make room for pages that are looked at. So a tidying that begins with more than two
+/// steps left isn't `Spent` there.
 pub fn tidy_files_are_left_alone()
     ensures { TidyFilesAreLeftAlone }
 {}
