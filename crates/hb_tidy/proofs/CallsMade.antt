@@ -1,5 +1,5 @@
 -- A step of a worker, a flush, a look and a job that waits, as the calls of this crate have them.
-use Rattle.std.proofs.Common.{◌≡◌, ◌≢◌, ◌⊎◌, ◌↔◌, inl, inr, ℕ, ◌+◌, ◌-◌, ◌^◌, ◌≤◌, ◌<◌, length, Option, Some, None, IfSome, IsSome, Result, Ok, Err, OnOk, refl, sym, ap, ◌∙◌, subst, arith}
+use Rattle.std.proofs.Common.{◌≡◌, ◌≢◌, ◌⊎◌, ◌↔◌, inl, inr, ℕ, ◌+◌, ◌-◌, ◌^◌, ◌≤◌, ◌<◌, List, [], length, Option, Some, None, IfSome, IsSome, Result, Ok, Err, OnOk, refl, sym, ap, ◌∙◌, subst, arith}
 use Rattle.std.specs.Result.{IfErr, IfOk}
 use Rattle.std.proofs.Math.Nat.{eq-or-lt_of_le}
 use Rattle.std.proofs.lemmas.List.{length-map}
@@ -12,6 +12,7 @@ use Rattle.hb_layout.specs.Limits.{IsLayout}
 use Rattle.hb_ops.specs.declared.operations.Op.{Op}
 use Rattle.hb_ops.specs.Files.{FileState}
 use Rattle.hb_outside.specs.Streams.{Rose}
+use Rattle.hb_set.specs.Order.{Entry}
 use Rattle.hb_store.specs.States.{StoreState}
 use Rattle.hb_store.specs.declared.stops.Flushed.{Flushed}
 use Rattle.hb_store.specs.declared.stops.Flushed.TheVariants as flushes
@@ -98,7 +99,7 @@ module _ (d : DiskModel) (old : RunningCore) (actor : ℕ) (outcome : Outcome) (
   -- the operation that the core tells is that of the machines
   did_made : (m : Machine) (shows : MayStep d old m) → DidInStep took.op (length m.order) m.store (tidied m shows).new.store
   did_made m shows =
-      let places : length m.order ≡ length old.order = sym (length-map m.order (λ e. e.line.number)) ∙ ap length shows.shows.order in
+      let places : length m.order ≡ length old.order = sym (length-map m.order (λ (e : Entry). e.line.number)) ∙ ap (λ (numbers : List ℕ). length numbers) shows.shows.order in
       subst (λ (n : ℕ). DidInStep took.op n m.store (tidied m shows).new.store) (sym places)
       (subst (λ (st : StoreState). DidInStep took.op (length old.order) st (tidied m shows).new.store) (sym shows.shows.store)
       (subst (λ (st : StoreState). DidInStep took.op (length old.order) old.store st) (sym (tidied m shows).shows.store) took.once.did))

@@ -63,9 +63,12 @@ one_more {X = X} old new x is (inr none) =
     let empty = ap (λ (xs : List X). length xs) (sym none ∙ is) in
     omega (arith, long, empty)
 
+behind_same : {X : Type 0} (came old new : List X) (x : X) → new ≡ came ++ x ∷ [] → came ≡ old → new ≡ old ++ x ∷ []
+behind_same {X = X} came old new x is same = is ∙ ap (λ (xs : List X). xs ++ x ∷ []) same
+
 no_op : (op : Option Op) (mark : ℕ) (old new : StoreState) → (new.log.groups ≡ old.log.groups) ⊎ (new.log.groups ≡ []) → DidInStep op mark old new → op ≡ None
 no_op None mark old new left did = refl
-no_op (Some op) mark old new left did = absurd (one_more old.log.groups new.log.groups _ (did.does.group ∙ ap (λ (groups : List Waiting). groups ++ _ ∷ []) (ap (λ (st : StoreState). st.log.groups) did.rest)) left)
+no_op (Some op) mark old new left did = absurd (one_more old.log.groups new.log.groups _ (behind_same did.came.log.groups old.log.groups new.log.groups _ did.does.group (ap (λ (st : StoreState). st.log.groups) did.rest)) left)
 
 -- ---- nobody has anything to do
 
