@@ -1,5 +1,5 @@
 -- How a tidying ends.
-use Rattle.std.proofs.Common.{◌≡◌, ◌-◌, ◌^◌, ◌<◌, [], Option, None, Some, IfSome, Result, Ok, Err, refl, sym, ap, ◌∙◌, subst, arith}
+use Rattle.std.proofs.Common.{◌≡◌, ◌-◌, ◌^◌, [], Option, None, Some, IfSome, Result, Ok, Err, refl, sym, ap, ◌∙◌, subst}
 use Rattle.hb_lemmas.proofs.Options.{if_value}
 use Rattle.hb_disk.proofs.Facts.RunLaws.{OnlyReads-none}
 use Rattle.hb_disk.specs.Model.{DiskModel, IsDisk}

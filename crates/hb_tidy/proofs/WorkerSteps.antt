@@ -43,7 +43,7 @@ module _ (d : DiskModel) (old : RunningCore) (kind : JobKind) (actor : ℕ) (out
       let next = steps m shows in
       let step : StepsTo m 18 outcome next.0 = subst (λ (n : ℕ). StepsTo m n outcome next.0) (who ∙ merges) next.1 in
       let done : DidOp op (length old.order) m.store next.0.store =
-          subst (λ (st : StoreState). DidOp op (length old.order) st next.0.store) (sym shows.shows.store) (subst (DidOp op (length old.order) old.store) (sym next.2.store) did) in
+      subst (λ (st : StoreState). DidOp op (length old.order) st next.0.store) (sym shows.shows.store) (subst (DidOp op (length old.order) old.store) (sym next.2.store) did) in
       inr (merger_splits_none m 18 outcome next.0 (shows.goes_on.kept.classes 18) step op (length old.order) done)
 
   did : (op : Option Op) × DidOnce (Steps actor outcome op) op old new

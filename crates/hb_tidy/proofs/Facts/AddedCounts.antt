@@ -1,5 +1,5 @@
 -- Counts of operations that are added, and those of events that come one behind the other.
-use Rattle.std.proofs.Common.{◌≡◌, ℕ, ◌+◌, ◌≤◌, List, [], ◌++◌, cond, ap, ◌∙◌, arith}
+use Rattle.std.proofs.Common.{◌≡◌, ℕ, ◌+◌, ◌≤◌, List, ◌++◌, cond, ap, ◌∙◌, arith}
 use Rattle.std.proofs.lemmas.List.Sums.{sum_by-append}
 use Rattle.hb_core.specs.Counts.{no_counts}
 use Rattle.hb_core.specs.declared.counts.TidyCounts.{TidyCounts}

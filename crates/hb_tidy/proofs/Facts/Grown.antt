@@ -1,5 +1,5 @@
 -- A file grows by the operations that were done.
-use Rattle.std.proofs.Common.{◌≡◌, ℕ, ◌+◌, ◌-◌, List, [], ◌∷◌, Option, Some, None, refl, sym, ap, subst, arith}
+use Rattle.std.proofs.Common.{◌≡◌, ℕ, ◌+◌, ◌-◌, [], ◌∷◌, Option, Some, None, refl, sym, ap, subst, arith}
 use Rattle.std.proofs.Math.Nat.{sub-add_cancel}
 use Rattle.hb_core.specs.Counting.{DidOp}
 use Rattle.hb_core.specs.Counts.{no_counts}
