@@ -21,6 +21,7 @@ use Rattle.hb_store.specs.Keeps.{StoreKeeps}
 use Rattle.hb_store.specs.Opening.{OpensTo}
 use Rattle.hb_store.specs.States.{IsNew, StoreState}
 use Rattle.hb_store.specs.declared.stops.StopWhy.{StopWhy}
+use Rattle.hb_tidy.specs.Counted.{GrewBy}
 use Rattle.hb_tidy.specs.Tidying.{HasTidied, KeepsSet}
 use Rattle.hb_tidy.specs.Working.{Event}
 use Rattle.hb_tidy.specs.declared.stops.TidyStop.{TidyStop}
@@ -31,7 +32,7 @@ use Rattle.hbpi.proofs.Reopened.{counts_before, no_line_yet, pages_of}
 use Rattle.hbpi.specs.Driven.{BeginsOpened}
 use Rattle.hbpi.specs.SeenRuns.{IsAlone, Seen, run_of}
 use Rattle.hbpi.specs.Starts.{StartLaws}
-use Rattle.hbpi.specs.Tidied.{GrewBy, HasContents, HasSameRecords, IsTidied, LeavesTidied}
+use Rattle.hbpi.specs.Tidied.{HasContents, HasSameRecords, IsTidied, LeavesTidied}
 use Rattle.hbpi.specs.TidyRuns.{EndsForced, FilesTidied, TidiesFile, TidyWhy}
 use Rattle.hb_steps.proofs.Facts.LaterPages.{last_sound}
 
@@ -60,7 +61,7 @@ module _ (s : FileState) (d e : DiskModel) (m new : Machine) (first : Files) (ke
       let alone : current_file files ≡ files.durable = ap (last_of files.durable) none in
       subst (λ (f : Files). IsTidied s e f (Ok counts)) (are_same shown) (
         subst (HasSameRecords s) alone current,
-        even_store e new.store files.durable files.later store (keeps.keeps.kept.runs why),
+        even_store e new.store files.durable files.later store (keeps.keeps.kept.runs why.0),
         tidy,
         subst (λ (meta : Meta). GrewBy meta files.durable.meta counts) opened grew,
       )

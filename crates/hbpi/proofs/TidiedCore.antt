@@ -24,10 +24,11 @@ use Rattle.hb_tidy.proofs.Facts.Forced.{FlushesOn, flush_runs, flushes_on}
 use Rattle.hb_tidy.proofs.Facts.Joined.{may_then}
 use Rattle.hb_tidy.specs.Finding.{IsTidy, WantsPage}
 use Rattle.hb_tidy.specs.Tidying.{EndsTidying, HasTidied, StopsTidying, file_now}
-use Rattle.hb_tidy.specs.Working.{DropsAtEnd, DropsNone, Event, HasWorked, steps_in}
+use Rattle.hb_tidy.specs.Working.{DropsAtEnd, DropsNone, Event, HasWorked, operations_in, steps_in}
 use Rattle.hb_tidy.specs.declared.stops.TidyStop.{TidyStop}
 use Rattle.hb_tidy.specs.declared.stops.TidyStop.TheVariants as tidies
-use Rattle.hbpi.specs.Tidied.{GrewBy}
+use Rattle.hb_tidy.proofs.Facts.Grown.{files_grow_by_operations}
+use Rattle.hb_tidy.specs.Counted.{GrewBy}
 use Rattle.hbpi.specs.TidyRuns.{EndsForced, FilesTidied, IsForced, IsTidiedBy}
 
 -- ---- where the tidying wasn't done
@@ -77,7 +78,7 @@ durable_tidy meta counts files none grew tidy =
     let alone : current_file files ≡ files.durable = ap (last_of files.durable) none in
     (none, subst IsTidy alone tidy, subst (λ (s : FileState). GrewBy meta s.meta counts) alone grew)
 
-module _ (laws : RunningLaws) (d : DiskModel) (m : Machine) (e : DiskModel) (first old : RunningCore) (f : DiskModel) (new : RunningCore) (counts : TidyCounts) (t : HasTidied d m e old) (worked : HasWorked {T = TidyCounts} (Ok counts) first m old t.new) (done : EndsTidying d e first old t.new (Ok counts)) (shown : m.store ≡ first.store) (disk : IsDisk e) (disk_next : IsDisk f) where
+module _ (laws : RunningLaws) (d : DiskModel) (m : Machine) (e : DiskModel) (first old : RunningCore) (f : DiskModel) (new : RunningCore) (counts : TidyCounts) (t : HasTidied d m e old) (worked : HasWorked {T = TidyCounts} (Ok counts) first m old t.new) (done : EndsTidying d e old (operations_in worked.events) t.new (Ok counts)) (disk : IsDisk e) (disk_next : IsDisk f) where
   module _ (r : Result Flushed WriteFault) (steps : (x : Machine) → MayStep e old x → (next : Machine) × StepsTo x 19 (said_of_flush r) next × ShowsMachine f new next) (touches : Touches e old (said_of_flush r) f new) where
     on : FlushesOn d m t.new (said_of_flush r) f new
     on = flushes_on laws d m e old f new t done.0 disk disk_next r steps touches
@@ -91,14 +92,13 @@ module _ (laws : RunningLaws) (d : DiskModel) (m : Machine) (e : DiskModel) (fir
       let runs : went.new.stop ≡ None = went.shows.stop ∙ flush_runs e f t.new old new flushed (may_then d e m old t) done.0 steps in
       let none = flush.none runs in
       let tidy : IfSome (file_now went.new) IsTidy = subst (λ (o : Option FileState). IfSome o IsTidy) (sym flush.stays.file) done.1 in
-      let same_meta : went.new.store.meta ≡ old.store.meta = flush.stays.meta ∙ ap (λ (x : StoreState). x.meta) t.shows.store in
-      let counted : GrewBy first.store.meta old.store.meta counts = record { height = done.2.height; live = done.2.live } in
-      let grew : GrewBy m.store.meta went.new.store.meta counts = subst (λ (x : Meta). GrewBy m.store.meta x counts) (sym same_meta) (subst (λ (x : StoreState). GrewBy x.meta old.store.meta counts) (sym shown) counted) in (
+      let counted : GrewBy m.store.meta t.new.store.meta counts = subst (λ (c : TidyCounts). GrewBy m.store.meta t.new.store.meta c) (sym done.2) (files_grow_by_operations m t.new worked.events worked.works) in
+      let grew : GrewBy m.store.meta went.new.store.meta counts = subst (λ (x : Meta). GrewBy m.store.meta x counts) (sym flush.stays.meta) counted in (
         went,
         record {
           events = worked.events;
           works = record { tidied = t.new; works = worked.works; drops = worked.drops; forced = (said_of_flush (Ok flushed), flush.takes) };
-          why = runs;
+          why = (runs, done.2);
           files = if_value went.new.files (FilesTidied m.store.meta (Ok counts)) (λ files is.
               let shown = went.shows.tells (tells_of f went.new files went.shows.silent is) in
               let same : shown.files ≡ files = cc (shown.told, is) in

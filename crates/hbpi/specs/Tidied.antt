@@ -14,6 +14,7 @@ use Rattle.hb_sound.specs.PointWalks.{IsPointOf, IsWholeWalk}
 use Rattle.hb_ops.specs.Sound.{IsSound}
 use Rattle.hb_outside.specs.Streams.{Appends, Rose}
 use Rattle.hb_store.specs.Opening.{IsEven, OpensTo}
+use Rattle.hb_tidy.specs.Counted.{GrewBy}
 use Rattle.hb_tidy.specs.Finding.{IsTidy, WantsPage}
 use Rattle.hb_tidy.specs.declared.stops.TidyStop.{TidyStop}
 use Rattle.hb_tidy.specs.declared.stops.TidyStop.TheVariants as tidies
@@ -35,12 +36,6 @@ tidied_text c = codes "tidy grown " ++ decimal c.grown ++ codes " posted " ++ de
 -- An image opens to a sound file with the contents of this one, in which each point has one page.
 abbrev pub HasContents : FileState → List ℕ → Type 0
 HasContents s c = IsPrefixImage (contents_of s) [] 0 c
-
--- A file got higher by the growths that are counted, and has as many more pages in use as growths and splits made, less those that
--- merges freed.
-pub record GrewBy (before after : Meta) (counts : TidyCounts) : Type 0 where
-  pub height : after.height ≡ before.height + counts.grown
-  pub live : after.live + counts.merged ≡ before.live + (counts.grown + counts.split)
 
 -- A sound file with the contents of this one.
 pub record HasSameRecords (s t : FileState) : Type 0 where

@@ -28,8 +28,9 @@ use Rattle.hbpi.specs.Outcome.{GetsLine, fault_line}
 use Rattle.hbpi.specs.Saying.{IsSaid}
 use Rattle.hbpi.specs.SeenRuns.{IsAlone, Run}
 use Rattle.hbpi.specs.declared.statuses.Status.{Status}
-use Rattle.hb_tidy.specs.Working.{DropsAtEnd, DropsNone, Event, WorksOff, steps_in}
-use Rattle.hbpi.specs.Tidied.{GrewBy, LeavesTidied, nobody, tidied_text}
+use Rattle.hb_tidy.specs.Working.{DropsAtEnd, DropsNone, Event, WorksOff, operations_in, steps_in}
+use Rattle.hb_tidy.specs.Counted.{GrewBy}
+use Rattle.hbpi.specs.Tidied.{LeavesTidied, nobody, tidied_text}
 
 -- The last thing that happened to a machine that was tidied. Where it is done the flusher took one step, so that no group waits; a fault may
 -- have been met in that step.
@@ -46,10 +47,10 @@ pub record IsTidiedBy (events : List Event) (before after : Machine) (result : R
   pub drops : MatchResult result (λ counts. All DropsNone events) (λ stop. DropsAtEnd events)
   pub forced : IsForced result tidied after
 
--- What stopped it on its way to this machine: nothing where it is done; nothing but that no page is free; a count of faults that rose; a
+-- What stopped it on its way to this machine: nothing where it is done, and the counts are those of the operations on that way; nothing but that no page is free; a count of faults that rose; a
 -- damaged page, which only a disk has that tells nothing; or want of steps, of which the last count was taken.
 abbrev pub TidyWhy : DiskModel → DiskModel → List Event → Machine → Result TidyCounts TidyStop → Type 0
-TidyWhy d e events m (Ok counts) = m.stop ≡ None
+TidyWhy d e events m (Ok counts) = (m.stop ≡ None) × (counts ≡ operations_in events)
 TidyWhy d e events m (Err tidies.Full) = (m.stop ≡ None) × (m.store.meta.live ≡ m.store.meta.pages)
 TidyWhy d e events m (Err tidies.ReadFault) = Rose d.read_faults e.read_faults
 TidyWhy d e events m (Err tidies.WriteFault) = Rose d.write_faults e.write_faults
