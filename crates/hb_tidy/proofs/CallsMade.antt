@@ -1,15 +1,18 @@
 -- A step of a worker, a flush, a look and a job that waits, as the calls of this crate have them.
-use Rattle.std.proofs.Common.{◌≡◌, ◌≢◌, ◌⊎◌, ◌↔◌, inl, inr, ℕ, ◌+◌, ◌-◌, ◌^◌, ◌≤◌, ◌<◌, [], Option, Some, None, IfSome, IsSome, Result, Ok, Err, OnOk, refl, sym, ap, ◌∙◌, subst, arith}
+use Rattle.std.proofs.Common.{◌≡◌, ◌≢◌, ◌⊎◌, ◌↔◌, inl, inr, ℕ, ◌+◌, ◌-◌, ◌^◌, ◌≤◌, ◌<◌, List, [], length, Option, Some, None, IfSome, IsSome, Result, Ok, Err, OnOk, refl, sym, ap, ◌∙◌, subst, arith}
 use Rattle.std.specs.Result.{IfErr, IfOk}
 use Rattle.std.proofs.Math.Nat.{eq-or-lt_of_le}
+use Rattle.std.proofs.lemmas.List.{length-map}
 use Rattle.hb_disk.proofs.Facts.RunLaws.{OnlyReads-none}
 use Rattle.hb_disk.specs.Model.{DiskModel, IsDisk}
 use Rattle.hb_lemmas.proofs.Options.{at_value, not_none}
 use Rattle.hb_activity.specs.declared.dropping.DropWhy.TheVariants as drops
 use Rattle.hb_activity.specs.declared.jobs.Job.{Job}
 use Rattle.hb_layout.specs.Limits.{IsLayout}
+use Rattle.hb_ops.specs.declared.operations.Op.{Op}
 use Rattle.hb_ops.specs.Files.{FileState}
 use Rattle.hb_outside.specs.Streams.{Rose}
+use Rattle.hb_set.specs.Order.{Entry}
 use Rattle.hb_store.specs.States.{StoreState}
 use Rattle.hb_store.specs.declared.stops.Flushed.{Flushed}
 use Rattle.hb_store.specs.declared.stops.Flushed.TheVariants as flushes
@@ -20,6 +23,7 @@ use Rattle.hb_store.specs.declared.stops.Why.{Why}
 use Rattle.hb_steps.proofs.Facts.NoDamage.{stays_undamaged}
 use Rattle.hb_core.proofs.Facts.BetweenCalls.{flusher_stands}
 use Rattle.hb_core.specs.Between.{LetsWait, said_of_flush}
+use Rattle.hb_core.specs.Counting.{CountsStay, CountsWithin}
 use Rattle.hb_steps.specs.Keeps.{HasSoundFile}
 use Rattle.hb_steps.specs.KeptFits.{JobFits}
 use Rattle.hb_steps.specs.Machines.{Machine}
@@ -29,21 +33,21 @@ use Rattle.hb_core.specs.Touching.{EndsByRead, Touches}
 use Rattle.hb_core.specs.Working.{MayStep}
 use Rattle.hb_steps.specs.declared.outcomes.Outcome.{Outcome}
 use Rattle.hb_steps.specs.declared.outcomes.Outcome.TheVariants as outcomes
-use Rattle.hb_tidy.proofs.CountsOfCalls.{same_rises}
+use Rattle.hb_tidy.proofs.CountsOfSteps.{DidOnce}
 use Rattle.hb_tidy.proofs.Facts.Joined.{may_then}
 use Rattle.hb_tidy.proofs.OneCall.{StandsStill, run_tidied, step_runs, step_taken, still_itself, still_tidied, still_tidied_new, still_waiting}
 use Rattle.hb_tidy.proofs.Resting.{still_rests}
-use Rattle.hb_tidy.proofs.Worked.{none_dropped, taken_still, worked_none, worked_once}
+use Rattle.hb_tidy.proofs.Worked.{none_dropped, worked_none, worked_once, worked_still}
 use Rattle.hb_tidy.proofs.Workers.{FlushLeaves, IsWorker, flusher_leaves, is_actor}
 use Rattle.hb_tidy.specs.declared.stops.TidyStop.{TidyStop}
 use Rattle.hb_tidy.specs.declared.stops.TidyStop.TheVariants as stops
-use Rattle.hb_tidy.specs.Counted.{CountsRise, EndsSpent}
+use Rattle.hb_tidy.specs.Counted.{EndsSpent}
 use Rattle.hb_tidy.specs.Going.{Goes, MayTidy}
 use Rattle.hb_tidy.specs.Looking.{FileStays, LooksOver, NothingOf}
 use Rattle.hb_tidy.specs.Stepping.{EndsCall, EndsStep, stop_by}
 use Rattle.hb_tidy.specs.Tidying.{HasTidied, StopsTidying, file_now}
 use Rattle.hb_tidy.specs.Owed.{IsJobOwed}
-use Rattle.hb_tidy.specs.Working.{DropsNone, HasCause, HasWorked}
+use Rattle.hb_tidy.specs.Working.{DidInStep, DropsNone, HasCause, HasWorked}
 use Rattle.hb_tidy.specs.Working.{Steps, Waits}
 
 -- ---- what is known of a core that may go on
@@ -81,6 +85,8 @@ pub record Stepped (d : DiskModel) (old : RunningCore) (actor : ℕ) (outcome : 
   pub touches : Touches d old outcome e new
   pub cause : (m : Machine) → MayStep d old m → HasCause m actor
   pub one : new.taken ≡ old.taken + 1
+  pub op : Option Op
+  pub once : DidOnce (Steps actor outcome op) op old new
 
 module _ (d : DiskModel) (old : RunningCore) (actor : ℕ) (outcome : Outcome) (e : DiskModel) (new : RunningCore) (took : Stepped d old actor outcome e new) (may : MayTidy d old) where
   pub tidied : (m : Machine) → MayStep d old m → HasTidied d m e new
@@ -90,8 +96,16 @@ module _ (d : DiskModel) (old : RunningCore) (actor : ℕ) (outcome : Outcome) (
   unfolding tidied
   step_made m shows = step_taken may.laws.runs d e m actor outcome old new took.disk took.disk_next took.worker shows took.steps took.touches shows.goes_on.kept
 
-  pub worked : {T : Type 0} (r : Result T TidyStop) → IfOk r (λ v. DropsNone (Steps actor outcome)) → (m : Machine) (shows : MayStep d old m) → HasWorked r old m new (tidied m shows).new
-  worked r none m shows = worked_once r old new m (tidied m shows).new (Steps actor outcome) took.one (took.cause m shows, step_made m shows) none
+  -- the operation that the core tells is that of the machines
+  did_made : (m : Machine) (shows : MayStep d old m) → DidInStep took.op (length m.order) m.store (tidied m shows).new.store
+  did_made m shows =
+      let places : length m.order ≡ length old.order = sym (length-map m.order (λ (e : Entry). e.line.number)) ∙ ap (λ (numbers : List ℕ). length numbers) shows.shows.order in
+      subst (λ (n : ℕ). DidInStep took.op n m.store (tidied m shows).new.store) (sym places)
+      (subst (λ (st : StoreState). DidInStep took.op (length old.order) st (tidied m shows).new.store) (sym shows.shows.store)
+      (subst (λ (st : StoreState). DidInStep took.op (length old.order) old.store st) (sym (tidied m shows).shows.store) took.once.did))
+
+  pub worked : {T : Type 0} (r : Result T TidyStop) → IfOk r (λ v. DropsNone (Steps actor outcome took.op)) → (m : Machine) (shows : MayStep d old m) → HasWorked r old m new (tidied m shows).new
+  worked r none m shows = worked_once r old new m (tidied m shows).new (Steps actor outcome took.op) took.one took.once.counts (took.cause m shows, step_made m shows, did_made m shows) none
 
   -- nothing but a failed write stops it over a disk that tells
   never_damaged : (m : Machine) → MayStep d old m → (page : ℕ) (why : Why) → new.stop ≡ Some (whys.Damaged page why) → IsSome d.told → ⊥
@@ -119,9 +133,9 @@ module _ (d : DiskModel) (old : RunningCore) (actor : ℕ) (outcome : Outcome) (
         by (Err stop) (inl spent) = subst (λ (x : TidyStop). StopsTidying x d e new t.new) (sym spent.0) spent.1
         by (Err stop) (inr stopped) = subst (λ (x : TidyStop). StopsTidying x d e new t.new) (sym stopped.says) (stopped_cause m shows t stopped.why stopped.stopped)
 
-    module _ (rise : CountsRise old new) where
+    module _ (within : CountsWithin new) where
       pub left_by : new.taken ≢ 2 ^ 64 - 1 → new.taken < 2 ^ 64 - 1
-      left_by ne = below_last new.taken rise.within.last ne
+      left_by ne = below_last new.taken within.last ne
 
       pub spent : EndsSpent result new
       spent = by result went
@@ -137,13 +151,12 @@ module _ (d : DiskModel) (old : RunningCore) (actor : ℕ) (outcome : Outcome) (
           by : (r : Result (Unit {0}) TidyStop) → EndsCall new r → OnOk r (MayTidy e new)
           by (Ok v) is =
               let t = tidied may.runs.0 may.runs.1 in
-              record { laws = may.laws; runs = (t.new, may_then d e may.runs.0 new t, t.shows.stop ∙ is.1); counts = rise.within; left = left_by is.0 }
+              record { laws = may.laws; runs = (t.new, may_then d e may.runs.0 new t, t.shows.stop ∙ is.1); counts = within; left = left_by is.0 }
           by (Err stop) is = tt
 
-      pub step_goes : IfOk result (λ v. DropsNone (Steps actor outcome)) → Goes result d old e new
+      pub step_goes : IfOk result (λ v. DropsNone (Steps actor outcome took.op)) → Goes result d old e new
       step_goes none = record {
         does = λ m shows. let t = tidied m shows in record { run = t; worked = worked result none m shows; err = cause m shows t };
-        counts = rise;
         spent = spent;
         may = step_may;
       }
@@ -155,8 +168,8 @@ read_rose d old outcome e new (inr (inl force)) ends = absurd (force.no_read end
 read_rose d old outcome e new (inr (inr (inl home))) ends = absurd (home.no_read ends)
 read_rose d old outcome e new (inr (inr (inr turn))) ends = absurd (turn.no_read ends)
 
-pub ended_goes : (d : DiskModel) (old : RunningCore) (actor : ℕ) (outcome : Outcome) (e : DiskModel) (new : RunningCore) (result : Result (Unit {0}) TidyStop) → Stepped d old actor outcome e new → MayTidy d old → CountsRise old new → EndsCall new (Ok (tt {0})) → EndsStep outcome result → Goes result d old e new
-ended_goes d old actor outcome e new result took may rise went ends = by outcome took ends
+pub ended_goes : (d : DiskModel) (old : RunningCore) (actor : ℕ) (outcome : Outcome) (e : DiskModel) (new : RunningCore) (result : Result (Unit {0}) TidyStop) → Stepped d old actor outcome e new → MayTidy d old → CountsWithin new → EndsCall new (Ok (tt {0})) → EndsStep outcome result → Goes result d old e new
+ended_goes d old actor outcome e new result took may within went ends = by outcome took ends
   where
     so : (r : Result (Unit {0}) TidyStop) → result ≡ r → Goes r d old e new → Goes result d old e new
     so r is goes = subst (λ (x : Result (Unit {0}) TidyStop). Goes x d old e new) (sym is) goes
@@ -164,13 +177,12 @@ ended_goes d old actor outcome e new result took may rise went ends = by outcome
     fails : (stop : TidyStop) (o : Outcome) → Stepped d old actor o e new → result ≡ Err stop → (stop ≡ stops.Spent → ⊥) → ((m : Machine) → StopsTidying stop d e new m) → Goes result d old e new
     fails stop o made is other why = so (Err stop) is (record {
       does = λ m shows. let t = tidied d old actor o e new made may m shows in record { run = t; worked = worked d old actor o e new made may (Err stop) tt m shows; err = why t.new };
-      counts = rise;
-      spent = other_stop stop new (below_last new.taken rise.within.last went.0) other;
+      spent = other_stop stop new (below_last new.taken within.last went.0) other;
       may = tt;
     })
 
-    goes : (o : Outcome) → Stepped d old actor o e new → DropsNone (Steps actor o) → result ≡ Ok (tt {0}) → Goes result d old e new
-    goes o made none is = so (Ok (tt {0})) is (step_goes d old actor o e new made may (Ok (tt {0})) went rise none)
+    goes : (o : Outcome) (made : Stepped d old actor o e new) → DropsNone (Steps actor o made.op) → result ≡ Ok (tt {0}) → Goes result d old e new
+    goes o made none is = so (Ok (tt {0})) is (step_goes d old actor o e new made may (Ok (tt {0})) went within none)
 
     by : (o : Outcome) → Stepped d old actor o e new → EndsStep o result → Goes result d old e new
     by (outcomes.Dropped drops.NoMemory) made is = fails stops.NoMemory (outcomes.Dropped drops.NoMemory) made is (λ same. cc) (λ m. tt)
@@ -197,19 +209,18 @@ nothing_said None (Ok v) = tt
 nothing_said (Some s) (Ok v) = tt
 nothing_said o (Err stop) = tt
 
-pub flush_looks : (d : DiskModel) (old : RunningCore) (outcome : Outcome) (e : DiskModel) (new : RunningCore) (took : Stepped d old 19 outcome e new) (may : MayTidy d old) (result : Result (Unit {0}) TidyStop) (went : EndsCall new result) (rise : CountsRise old new) → new.store.meta ≡ old.store.meta → DropsNone (Steps 19 outcome)
+pub flush_looks : (d : DiskModel) (old : RunningCore) (outcome : Outcome) (e : DiskModel) (new : RunningCore) (took : Stepped d old 19 outcome e new) (may : MayTidy d old) (result : Result (Unit {0}) TidyStop) (went : EndsCall new result) (within : CountsWithin new) → new.store.meta ≡ old.store.meta → DropsNone (Steps 19 outcome took.op)
     → LooksOver NothingOf result (λ v. NothingOf) d old e new
-flush_looks d old outcome e new took may result went rise meta none = record {
+flush_looks d old outcome e new took may result went within meta none = record {
   looks = λ m shows known.
       let t = tidied d old 19 outcome e new took may m shows in
       record {
-        does = record { run = t; worked = worked d old 19 outcome e new took may result (none_dropped result (Steps 19 outcome) none) m shows; err = cause d old 19 outcome e new took may result went m shows t };
+        does = record { run = t; worked = worked d old 19 outcome e new took may result (none_dropped result (Steps 19 outcome took.op) none) m shows; err = cause d old 19 outcome e new took may result went m shows t };
         same = (flush_stays d old outcome e new took may m shows).same;
         ok = nothing_said (file_now m) result;
       };
-  counts = rise;
-  spent = spent d old 19 outcome e new took may result went rise;
-  may = step_may d old 19 outcome e new took may result went rise;
+  spent = spent d old 19 outcome e new took may result went within;
+  may = step_may d old 19 outcome e new took may result went within;
   meta = meta;
   waiting = λ empty. sym (flush_waits d old outcome e new took may) ∙ empty;
   rests =
@@ -219,12 +230,12 @@ flush_looks d old outcome e new took may result went rise meta none = record {
       still_rests d old m e new t.new shows.shows t.shows (flush_stays d old outcome e new took may m shows).activity;
 }
 
-pub flush_drops : (flushed : Result Flushed WriteFault) → DropsNone (Steps 19 (said_of_flush flushed))
-flush_drops (Ok flushes.Forced) = tt
-flush_drops (Ok (flushes.Written page)) = tt
-flush_drops (Ok flushes.Switched) = tt
-flush_drops (Ok flushes.Nothing) = tt
-flush_drops (Err fault) = tt
+pub flush_drops : (flushed : Result Flushed WriteFault) (op : Option Op) → DropsNone (Steps 19 (said_of_flush flushed) op)
+flush_drops (Ok flushes.Forced) op = tt
+flush_drops (Ok (flushes.Written page)) op = tt
+flush_drops (Ok flushes.Switched) op = tt
+flush_drops (Ok flushes.Nothing) op = tt
+flush_drops (Err fault) op = tt
 
 -- ---- a call that only reads
 
@@ -241,7 +252,7 @@ module _ (d : DiskModel) (c : RunningCore) (disk : IsDisk d) (may : MayTidy d c)
   nothing_new m shows = still_tidied_new may.laws.runs d d m m c c disk shows shows (OnlyReads-none d) (still_itself m)
 
   nothing_worked : {T : Type 0} (r : Result T TidyStop) (m : Machine) (shows : MayStep d c m) → HasWorked r c m c (nothing_done m shows).new
-  nothing_worked r m shows = worked_none r c c m (nothing_done m shows).new refl (nothing_new m shows)
+  nothing_worked r m shows = worked_none r c c m (nothing_done m shows).new (record { taken = refl; done = refl }) (nothing_new m shows)
 
   nothing_stays : (m : Machine) (shows : MayStep d c m) → FileStays m (nothing_done m shows).new
   nothing_stays m shows = subst (λ (x : Machine). FileStays m x) (sym (nothing_new m shows)) (record { file = refl; meta = refl })
@@ -257,7 +268,6 @@ module _ (d : DiskModel) (c : RunningCore) (disk : IsDisk d) (may : MayTidy d c)
       same = nothing_stays m shows;
       ok = if_known (file_now m) knows (says v) imp known;
     };
-    counts = same_rises c may.counts;
     spent = may.left;
     may = may;
     meta = refl;
@@ -274,7 +284,6 @@ module _ (d : DiskModel) (c : RunningCore) (disk : IsDisk d) (may : MayTidy d c)
       same = nothing_stays m shows;
       ok = tt;
     };
-    counts = same_rises c may.counts;
     spent = other_stop stop c may.left other;
     may = tt;
     meta = refl;
@@ -298,28 +307,27 @@ module _ (d : DiskModel) (old new : RunningCore) (job : Job) (disk : IsDisk d) (
   stays_waiting : (m : Machine) (shows : MayStep d old m) → FileStays m (waited m shows).new
   stays_waiting m shows = subst (λ (x : Machine). FileStays m x) (sym (waited_new m shows)) (still m shows).same
 
-  waited_worked : {T : Type 0} (v : T) → new.taken ≡ old.taken → (m : Machine) (shows : MayStep d old m) → IfSome (file_now m) (λ s. IsJobOwed s job) → HasWorked (Ok v) old m new (waited m shows).new
-  waited_worked v same m shows owed =
-      worked_once (Ok v) old new m (waited m shows).new (Waits job) (taken_still old.taken new.taken (Waits job) refl same)
+  waited_worked : {T : Type 0} (v : T) → CountsStay old new → (m : Machine) (shows : MayStep d old m) → IfSome (file_now m) (λ s. IsJobOwed s job) → HasWorked (Ok v) old m new (waited m shows).new
+  waited_worked v stay m shows owed =
+      worked_still (Ok v) old new m (waited m shows).new (Waits job) stay refl refl
       (subst (λ (x : Machine). LetsWait job m x) (sym (waited_new m shows)) (goes_on m shows).1, owed) tt
 
-  wait_may : CountsRise old new → new.taken ≡ old.taken → MayTidy d new
-  wait_may rise taken =
+  wait_may : CountsWithin new → new.taken ≡ old.taken → MayTidy d new
+  wait_may within taken =
       let m = may.runs.0 in
       let next = goes_on m may.runs.1 in
       record {
         laws = may.laws;
         runs = (next.0, next.2, ap (λ (x : Machine). x.stop) next.1.rest ∙ may.runs.2);
-        counts = rise.within;
+        counts = within;
         left = let left = may.left in omega (arith, left, taken);
       }
 
-  pub wait_looks : CountsRise old new → new.taken ≡ old.taken → new.store.meta ≡ old.store.meta → (new.jobs ≡ [] → ⊥) → LooksOver {T = Unit {0}} (λ s. IsJobOwed s job) (Ok (tt {0})) (λ v. NothingOf) d old d new
-  wait_looks rise taken meta some = record {
-    looks = λ m shows known. record { does = record { run = waited m shows; worked = waited_worked (tt {0}) taken m shows known; err = tt }; same = stays_waiting m shows; ok = nothing_said {T = Unit {0}} (file_now m) (Ok (tt {0})) };
-    counts = rise;
-    spent = let left = may.left in omega (arith, left, taken);
-    may = wait_may rise taken;
+  pub wait_looks : CountsStay old new → CountsWithin new → new.store.meta ≡ old.store.meta → (new.jobs ≡ [] → ⊥) → LooksOver {T = Unit {0}} (λ s. IsJobOwed s job) (Ok (tt {0})) (λ v. NothingOf) d old d new
+  wait_looks stay within meta some = record {
+    looks = λ m shows known. record { does = record { run = waited m shows; worked = waited_worked (tt {0}) stay m shows known; err = tt }; same = stays_waiting m shows; ok = nothing_said {T = Unit {0}} (file_now m) (Ok (tt {0})) };
+    spent = let left = may.left in let taken = stay.taken in omega (arith, left, taken);
+    may = wait_may within stay.taken;
     meta = meta;
     waiting = λ none. absurd (some none);
     rests = let one = goes_on may.runs.0 may.runs.1 in still_rests d old may.runs.0 d new one.0 may.runs.1.shows one.2.shows (still may.runs.0 may.runs.1).activity;

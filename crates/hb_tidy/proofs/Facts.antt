@@ -1,2 +1,4 @@
+pub mod AddedCounts
 pub mod Forced
+pub mod Grown
 pub mod Joined

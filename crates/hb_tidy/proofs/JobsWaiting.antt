@@ -3,15 +3,13 @@ use Rattle.std.proofs.Common.{◌≡◌, Ok, sym, ap, subst}
 use Rattle.hb_activity.specs.declared.jobs.Job.{Job}
 use Rattle.hb_disk.specs.Model.{DiskModel, IsDisk}
 use Rattle.hb_core.specs.Between.{AddsToQueue, LetsWait}
-use Rattle.hb_core.specs.Counting.{CountsStay}
+use Rattle.hb_core.specs.Counting.{CountsStay, CountsWithin}
 use Rattle.hb_steps.specs.KeptFits.{JobFits}
 use Rattle.hb_steps.specs.Machines.{Machine}
 use Rattle.hb_core.specs.Showing.{RunningCore}
 use Rattle.hb_core.specs.Working.{MayStep}
 use Rattle.hb_tidy.proofs.CallsMade.{wait_looks}
-use Rattle.hb_tidy.proofs.CountsOfCalls.{stay_rises}
 use Rattle.hb_tidy.proofs.ToDo.{adds_some}
-use Rattle.hb_tidy.specs.Counted.{CountsRise}
 use Rattle.hb_tidy.specs.Going.{MayTidy}
 use Rattle.hb_tidy.specs.Looking.{LooksOver, NothingOf}
 use Rattle.hb_tidy.specs.Owed.{IsJobOwed}
@@ -20,8 +18,8 @@ module _ {D : Type 0} (model : D → DiskModel) (x : D) (old new : RunningCore) 
   stay : CountsStay old new
   stay = record { taken = ap (λ (c : RunningCore). c.taken) adds.rest; done = ap (λ (c : RunningCore). c.done) adds.rest }
 
-  rise : CountsRise old new
-  rise = stay_rises may.laws.counts old new stay (ap (λ (c : RunningCore). c.store.meta) adds.rest) may.counts
+  within : CountsWithin new
+  within = may.laws.counts.stay old new stay may.counts
 
   -- the disk stays as it was
   abbrev GoesOn : D → Type 0
@@ -30,4 +28,4 @@ module _ {D : Type 0} (model : D → DiskModel) (x : D) (old new : RunningCore) 
   pub job_looks : (y : D) → y ≡ x → GoesOn y → LooksOver {T = Unit {0}} (λ s. IsJobOwed s job) (Ok (tt {0})) (λ v. NothingOf) (model x) old (model y) new
   job_looks y same goes =
       subst (λ (z : D). GoesOn z → LooksOver {T = Unit {0}} (λ s. IsJobOwed s job) (Ok (tt {0})) (λ v. NothingOf) (model x) old (model z) new) (sym same)
-      (λ here. wait_looks (model x) old new job disk may fits here rise stay.taken (ap (λ (c : RunningCore). c.store.meta) adds.rest) (adds_some job old.jobs new.jobs adds.adds)) goes
+      (λ here. wait_looks (model x) old new job disk may fits here stay within (ap (λ (c : RunningCore). c.store.meta) adds.rest) (adds_some job old.jobs new.jobs adds.adds)) goes

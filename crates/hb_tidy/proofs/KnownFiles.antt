@@ -45,7 +45,6 @@ if_two (Some s) P Q p q = (p, q)
 pub over_file : {T : Type 0} (knows : FileState → Type 0) (r : Result T TidyStop) (says : T → FileState → Type 0) (d e : DiskModel) (old new : RunningCore) → LooksOver (λ s. IsFileOf old s × knows s) r says d old e new → LooksOver knows r says d old e new
 over_file knows r says d e old new one = record {
   looks = λ m shows known. one.looks m shows (if_two (file_now m) (IsFileOf old) knows (file_is d old m shows) known);
-  counts = one.counts;
   spent = one.spent;
   may = one.may;
   meta = one.meta;

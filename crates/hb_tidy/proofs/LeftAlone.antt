@@ -1,7 +1,8 @@
 -- A tidy file owes no job, so none is worked off.
-use Rattle.std.proofs.Common.{◌≡◌, ◌≢◌, ◌⊎◌, inl, inr, ℕ, ◌<◌, ◌≤◌, List, [], ◌∷◌, All, Option, Some, None, IfSome, option_map, refl, sym, ap, ◌∙◌, subst, arith}
+use Rattle.std.proofs.Common.{◌≡◌, ◌≢◌, ◌⊎◌, inl, inr, ℕ, ◌<◌, ◌≤◌, List, [], ◌∷◌, ◌++◌, All, length, Option, Some, None, IfSome, option_map, refl, sym, ap, ◌∙◌, subst, arith}
 use Rattle.std.specs.List.{Contains}
 use Rattle.std.specs.Prelude.{MatchOption}
+use Rattle.std.proofs.lemmas.List.{length-append}
 use Rattle.std.proofs.lemmas.List.Elements.{All-append, All-contains, All-nil}
 use Rattle.hb_activity.specs.declared.activities.Activity.{Activity}
 use Rattle.hb_activity.specs.declared.activities.Activity.TheVariants as at
@@ -10,6 +11,7 @@ use Rattle.hb_frag.specs.Leaves.{siblings_of}
 use Rattle.hb_layout.specs.declared.limits.TheConstants.{HEIGHT_MAX}
 use Rattle.hb_lemmas.proofs.Lists.{All-alone, no_member}
 use Rattle.hb_ops.specs.Files.{FileState}
+use Rattle.hb_ops.specs.declared.operations.Op.{Op}
 use Rattle.hb_ops.specs.Settled.{HasLoneRoot}
 use Rattle.hb_space.proofs.Facts.Boxes.{Meets-from_point}
 use Rattle.hb_space.specs.Boxes.{Area, Meets}
@@ -32,7 +34,7 @@ use Rattle.hb_tidy.specs.Finding.{IsTidy, OwesGrowth}
 use Rattle.hb_tidy.specs.Owed.{IsJobOwed}
 use Rattle.hb_tidy.specs.TidyFiles.{HasTidyFile, IsNoWork, TidyFilesAreLeftAlone}
 use Rattle.hb_tidy.specs.Tidying.{file_now}
-use Rattle.hb_tidy.specs.Working.{Breaks, Comes, Event, Happens, HasCause, Steps, Waits, WorksOff, steps_in}
+use Rattle.hb_tidy.specs.Working.{Breaks, Comes, DidInStep, Event, Happens, HasCause, Steps, Waits, WorksOff, steps_in}
 use Rattle.hb_store.specs.States.{StoreState}
 
 -- ---- no job is owed
@@ -48,6 +50,25 @@ none_owed s job tidy (inr (inl posting)) =
     All-contains (λ (sibling : ℕ × Area). ¬ (Meets posting.area sibling.1)) (siblings_of posting.below) posting.owed.inner apart posting.owed.given
     (Meets-from_point posting.area posting.owed.inner.1 job.point posting.owed.held posting.owed.inside)
 none_owed s job tidy (inr (inr merge)) = tidy.none merge.parent merge.keep merge.gone merge.may
+
+-- ---- a flush does no operation
+
+one_more : {X : Type 0} (old new : List X) (x : X) → new ≡ old ++ x ∷ [] → (new ≡ old) ⊎ (new ≡ []) → ⊥
+one_more {X = X} old new x is (inl same) =
+    let long = length-append {A = X} old (x ∷ []) in
+    let as_long = ap (λ (xs : List X). length xs) (sym same ∙ is) in
+    omega (arith, long, as_long)
+one_more {X = X} old new x is (inr none) =
+    let long = length-append {A = X} old (x ∷ []) in
+    let empty = ap (λ (xs : List X). length xs) (sym none ∙ is) in
+    omega (arith, long, empty)
+
+behind_same : {X : Type 0} (came old new : List X) (x : X) → new ≡ came ++ x ∷ [] → came ≡ old → new ≡ old ++ x ∷ []
+behind_same {X = X} came old new x is same = is ∙ ap (λ (xs : List X). xs ++ x ∷ []) same
+
+no_op : (op : Option Op) (mark : ℕ) (old new : StoreState) → (new.log.groups ≡ old.log.groups) ⊎ (new.log.groups ≡ []) → DidInStep op mark old new → op ≡ None
+no_op None mark old new left did = refl
+no_op (Some op) mark old new left did = absurd (one_more old.log.groups new.log.groups _ (behind_same did.came.log.groups old.log.groups new.log.groups _ did.does.group (ap (λ (st : StoreState). st.log.groups) did.rest)) left)
 
 -- ---- nobody has anything to do
 
@@ -107,7 +128,10 @@ module _ (s : FileState) (m : Machine) (done : HasTidyFile s m) where
   told none = let never : None ≡ Some s = sym (ap (λ (o : Option Files). option_map current_file o) none) ∙ done.file in cc
 
   happens : (event : Event) (next : Machine) → Happens event m next → IsNoWork event × HasTidyFile s next
-  happens (Steps actor outcome) next (cause, step) = let is = by_flusher actor cause in (is, flushed actor outcome next is step)
+  happens (Steps actor outcome op) next (cause, step, did) =
+      let is = by_flusher actor cause in
+      let left = flusher_leaves m outcome next done.flusher (subst (λ (n : ℕ). StepsTo m n outcome next) is step) in
+      ((is, no_op op (length m.order) m.store next.store left.groups did), flushed actor outcome next is step)
   happens (Waits job) next (waits, owed) = absurd (none_owed s job done.tidy (subst (λ (o : Option FileState). IfSome o (λ t. IsJobOwed t job)) done.file owed))
   happens (Comes id) next comes = (tt, so_still next (ap (λ (x : Machine). x.activity) comes.rest) (ap (λ (x : Machine). x.jobs) comes.rest) (ap file_now comes.rest) comes.tied.pool (subst AreUnpinned (sym comes.uses) (fetched_free m.uses id done.unpinned)))
   happens (Breaks id why) next (is, bad) = absurd (told (only_silent m.files id m.store why bad))
@@ -168,7 +192,7 @@ waiting_later m id next none comes = ap (λ (s : StoreState). s.log.groups) come
 
 none_follow : (events : List Event) (s : FileState) (m new : Machine) → HasTidyFile s m → FlushesNoMore m → WorksOff events m new → steps_in events ≡ 0
 none_follow [] s m new done ended is = refl
-none_follow (Steps actor outcome ∷ rest) s m new done ended (next, here, later) = absurd (by ended (flush_full s m done actor here.0))
+none_follow (Steps actor outcome op ∷ rest) s m new done ended (next, here, later) = absurd (by ended (flush_full s m done actor here.0))
   where
     by : FlushesNoMore m → (m.stop ≡ None) × (places m.uses ≡ 0) → ⊥
     by (inl place) (runs, full) = never_full (places m.uses) place full
@@ -179,13 +203,13 @@ none_follow (Breaks id why ∷ rest) s m new done ended (next, here, later) = ab
 
 one_follows : (events : List Event) (s : FileState) (m new : Machine) → HasTidyFile s m → m.store.log.groups ≡ [] → WorksOff events m new → steps_in events ≤ 1
 one_follows [] s m new done none is = omega arith
-one_follows (Steps actor outcome ∷ rest) s m new done none (next, here, later) =
+one_follows (Steps actor outcome op ∷ rest) s m new done none (next, here, later) =
     let full = flush_full s m done actor here.0 in
     let step = subst (λ (n : ℕ). StepsTo m n outcome next) (by_flusher s m done actor here.0) here.1 in
     by (step_comes s m done full.1 outcome next full.0 step)
   where
-    by : FlushesNoMore next ⊎ ((m.store.log.groups ≢ []) × (next.store.log.groups ≡ [])) → steps_in (Steps actor outcome ∷ rest) ≤ 1
-    by (inl ended) = let few = none_follow rest s next new (happens s m done (Steps actor outcome) next here).1 ended later in omega (arith, few)
+    by : FlushesNoMore next ⊎ ((m.store.log.groups ≢ []) × (next.store.log.groups ≡ [])) → steps_in (Steps actor outcome op ∷ rest) ≤ 1
+    by (inl ended) = let few = none_follow rest s next new (happens s m done (Steps actor outcome op) next here).1 ended later in omega (arith, few)
     by (inr (waits, sunk)) = absurd (waits none)
 one_follows (Waits job ∷ rest) s m new done none (next, here, later) = absurd ((happens s m done (Waits job) next here).0)
 one_follows (Comes id ∷ rest) s m new done none (next, here, later) = one_follows rest s next new (happens s m done (Comes id) next here).1 (waiting_later m id next none here) later
@@ -193,14 +217,14 @@ one_follows (Breaks id why ∷ rest) s m new done none (next, here, later) = abs
 
 two_follow : (events : List Event) (s : FileState) (m new : Machine) → HasTidyFile s m → WorksOff events m new → steps_in events ≤ 2
 two_follow [] s m new done is = omega arith
-two_follow (Steps actor outcome ∷ rest) s m new done (next, here, later) =
+two_follow (Steps actor outcome op ∷ rest) s m new done (next, here, later) =
     let full = flush_full s m done actor here.0 in
     let step = subst (λ (n : ℕ). StepsTo m n outcome next) (by_flusher s m done actor here.0) here.1 in
     by (step_comes s m done full.1 outcome next full.0 step)
   where
-    by : FlushesNoMore next ⊎ ((m.store.log.groups ≢ []) × (next.store.log.groups ≡ [])) → steps_in (Steps actor outcome ∷ rest) ≤ 2
-    by (inl ended) = let few = none_follow rest s next new (happens s m done (Steps actor outcome) next here).1 ended later in omega (arith, few)
-    by (inr (waits, none)) = let few = one_follows rest s next new (happens s m done (Steps actor outcome) next here).1 none later in omega (arith, few)
+    by : FlushesNoMore next ⊎ ((m.store.log.groups ≢ []) × (next.store.log.groups ≡ [])) → steps_in (Steps actor outcome op ∷ rest) ≤ 2
+    by (inl ended) = let few = none_follow rest s next new (happens s m done (Steps actor outcome op) next here).1 ended later in omega (arith, few)
+    by (inr (waits, none)) = let few = one_follows rest s next new (happens s m done (Steps actor outcome op) next here).1 none later in omega (arith, few)
 two_follow (Waits job ∷ rest) s m new done (next, here, later) = absurd ((happens s m done (Waits job) next here).0)
 two_follow (Comes id ∷ rest) s m new done (next, here, later) = two_follow rest s next new (happens s m done (Comes id) next here).1 later
 two_follow (Breaks id why ∷ rest) s m new done (next, here, later) = absurd ((happens s m done (Breaks id why) next here).0)

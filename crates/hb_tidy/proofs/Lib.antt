@@ -8,8 +8,8 @@ pub mod ToDo
 pub mod Resting
 pub mod CleanedPlaces
 pub mod OneCall
-pub mod LiveCounted
-pub mod CountsOfCalls
+pub mod MergesOnly
+pub mod CountsOfSteps
 pub mod CallsMade
 pub mod WorkerSteps
 pub mod LooksMade

@@ -14,7 +14,8 @@ use Rattle.hb_store.specs.Fetching.{IsCrowdedOut}
 use Rattle.hb_store.specs.States.{IsGoodPage, StoreState}
 use Rattle.hb_store.specs.declared.stops.Why.{Why}
 use Rattle.hb_core.specs.Between.{CopiesPage}
-use Rattle.hb_core.specs.Counting.{CountsStay}
+use Rattle.hb_core.specs.Counting.{CountsStay, CountsWithin}
+use Rattle.hb_core.specs.Counts.{no_counts}
 use Rattle.hb_steps.specs.Fetching.{IsBadRead}
 use Rattle.hb_steps.specs.Machines.{Files, Machine, current_file}
 use Rattle.hb_core.specs.Showing.{RunningCore}
@@ -22,17 +23,16 @@ use Rattle.hb_core.specs.Working.{MayStep}
 use Rattle.hb_core.specs.declared.copies.CopyStop.{CopyStop}
 use Rattle.hb_core.specs.declared.copies.CopyStop.TheVariants as copies
 use Rattle.hb_tidy.proofs.CallsMade.{other_stop}
-use Rattle.hb_tidy.proofs.CountsOfCalls.{stay_rises}
 use Rattle.hb_tidy.proofs.OneCall.{StandsStill, only_silent, still_looking, still_tidied, still_tidied_new}
 use Rattle.hb_tidy.proofs.Resting.{still_rests}
-use Rattle.hb_tidy.proofs.Worked.{none_dropped, taken_still, worked_none, worked_once}
+use Rattle.hb_tidy.proofs.Worked.{worked_none, worked_still}
 use Rattle.hb_tidy.specs.declared.stops.TidyStop.{TidyStop}
 use Rattle.hb_tidy.specs.declared.stops.TidyStop.TheVariants as stops
-use Rattle.hb_tidy.specs.Counted.{CountsRise, EndsSpent}
+use Rattle.hb_tidy.specs.Counted.{EndsSpent}
 use Rattle.hb_tidy.specs.Going.{MayTidy}
 use Rattle.hb_tidy.specs.Looking.{FileStays, LooksOver, NothingOf, SeesBy}
 use Rattle.hb_tidy.specs.Tidying.{HasTidied, StopsTidying, file_now}
-use Rattle.hb_tidy.specs.Working.{DropsNone, Event, Happens, HasWorked, steps_in}
+use Rattle.hb_tidy.specs.Working.{DropsNone, Event, Happens, HasWorked, operations_in, steps_in}
 use Rattle.hb_tidy.specs.Working.{Breaks, Comes}
 
 -- What a core told of a look.
@@ -87,15 +87,15 @@ module _ (id : ℕ) (copied : Result Page CopyStop) (d : DiskModel) (old : Runni
   worked_so : {T : Type 0} (r : Result T TidyStop) (m x : Machine) (c : Result Page CopyStop) → CopiesPage id c m x → HasWorked r old m new x
   worked_so r m x c was = by c was
     where
-      one : (event : Event) → steps_in (event ∷ []) ≡ 0 → DropsNone event → Happens event m x → HasWorked r old m new x
-      one event still none here = worked_once r old new m x event (taken_still old.taken new.taken event still looked.counts.taken) here (none_dropped r event none)
+      one : (event : Event) → steps_in (event ∷ []) ≡ 0 → operations_in (event ∷ []) ≡ no_counts → DropsNone event → Happens event m x → HasWorked r old m new x
+      one event step op none here = worked_still r old new m x event looked.counts step op here none
 
       by : (c : Result Page CopyStop) → CopiesPage id c m x → HasWorked r old m new x
-      by (Ok page) was = one (Comes id) refl tt was.0
-      by (Err copies.NoMemory) was = one (Comes id) refl tt was
-      by (Err copies.ReadFault) was = worked_none r old new m x looked.counts.taken was.0
-      by (Err copies.Crowded) was = worked_none r old new m x looked.counts.taken was.0
-      by (Err (copies.Damaged page why)) was = one (Breaks page why) refl tt (was.0, subst (λ (n : ℕ). IsBadRead m.files m.store n why) (sym was.1) was.2)
+      by (Ok page) was = one (Comes id) refl refl tt was.0
+      by (Err copies.NoMemory) was = one (Comes id) refl refl tt was
+      by (Err copies.ReadFault) was = worked_none r old new m x looked.counts was.0
+      by (Err copies.Crowded) was = worked_none r old new m x looked.counts was.0
+      by (Err (copies.Damaged page why)) was = one (Breaks page why) refl refl tt (was.0, subst (λ (n : ℕ). IsBadRead m.files m.store n why) (sym was.1) was.2)
 
   worked_at : {T : Type 0} (r : Result T TidyStop) (m : Machine) (shows : MayStep d old m) → HasWorked r old m new (looked_at m shows).new
   worked_at r m shows = worked_so r m (looked_at m shows).new copied (subst (λ (x : Machine). CopiesPage id copied m x) (sym (looked_new m shows)) (looked.told m shows).1)
@@ -128,8 +128,8 @@ module _ (id : ℕ) (copied : Result Page CopyStop) (d : DiskModel) (old : Runni
       omega (arith, left, same)
 
   module _ (seen : Result (Option Page) TidyStop) (sees : SeesBy copied seen) where
-    rise : CountsRise old new
-    rise = stay_rises may.laws.counts old new looked.counts look_meta may.counts
+    within : CountsWithin new
+    within = may.laws.counts.stay old new looked.counts may.counts
 
     module _ (m : Machine) (shows : MayStep d old m) (t : HasTidied d m e new) where
       cause : (c : Result Page CopyStop) → (IsErrOf c copies.ReadFault → Rose d.read_faults e.read_faults) → CopiesPage id c m (looked.told m shows).0 → (r : Result (Option Page) TidyStop) → SeesBy c r → IfErr r (λ stop. StopsTidying stop d e new t.new)
@@ -157,10 +157,10 @@ module _ (id : ℕ) (copied : Result Page CopyStop) (d : DiskModel) (old : Runni
     goes_on : (m : Machine) (shows : MayStep d old m) → m.stop ≡ None → (c : Result Page CopyStop) → CopiesPage id c m (looked.told m shows).0 → (r : Result (Option Page) TidyStop) → SeesBy c r → OnOk r (MayTidy e new)
     goes_on m shows none (Ok page) was r is =
         subst (λ (x : Result (Option Page) TidyStop). OnOk x (MayTidy e new)) (sym is)
-        (record { laws = may.laws; runs = ((looked.told m shows).0, (looked.told m shows).2, ap (λ (x : Machine). x.stop) was.0.rest ∙ none); counts = rise.within; left = left_still })
+        (record { laws = may.laws; runs = ((looked.told m shows).0, (looked.told m shows).2, ap (λ (x : Machine). x.stop) was.0.rest ∙ none); counts = within; left = left_still })
     goes_on m shows none (Err copies.Crowded) was r is =
         subst (λ (x : Result (Option Page) TidyStop). OnOk x (MayTidy e new)) (sym is)
-        (record { laws = may.laws; runs = ((looked.told m shows).0, (looked.told m shows).2, ap (λ (x : Machine). x.stop) was.0 ∙ none); counts = rise.within; left = left_still })
+        (record { laws = may.laws; runs = ((looked.told m shows).0, (looked.told m shows).2, ap (λ (x : Machine). x.stop) was.0 ∙ none); counts = within; left = left_still })
     goes_on m shows none (Err copies.ReadFault) was r is = subst (λ (x : Result (Option Page) TidyStop). OnOk x (MayTidy e new)) (sym is) tt
     goes_on m shows none (Err copies.NoMemory) was r is = subst (λ (x : Result (Option Page) TidyStop). OnOk x (MayTidy e new)) (sym is) tt
     goes_on m shows none (Err (copies.Damaged page why)) was r is = subst (λ (x : Result (Option Page) TidyStop). OnOk x (MayTidy e new)) (sym is) tt
@@ -177,7 +177,6 @@ module _ (id : ℕ) (copied : Result Page CopyStop) (d : DiskModel) (old : Runni
             same = stays m shows;
             ok = saw m shows t copied (looked.told m shows).1 seen sees;
           };
-      counts = rise;
       spent = spent_so copied seen sees;
       may = look_may;
       meta = look_meta;

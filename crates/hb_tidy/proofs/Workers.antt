@@ -1,5 +1,5 @@
 -- A step of a worker or of the flusher answers no line, and lets none join the order. One of the flusher leaves the file as it is, too.
-use Rattle.std.proofs.Common.{◌≡◌, ◌⊎◌, inl, inr, ℕ, ◌≤◌, Option, None, Some, option_map, refl, sym, ap, ◌∙◌, subst, arith}
+use Rattle.std.proofs.Common.{◌≡◌, ◌⊎◌, inl, inr, ℕ, ◌≤◌, [], Option, None, Some, option_map, refl, sym, ap, ◌∙◌, subst, arith}
 use Rattle.std.specs.Prelude.{MatchOption}
 use Rattle.std.proofs.lemmas.List.Elements.{All-contains}
 use Rattle.hb_activity.specs.Classes.{Sessions, class_of}
@@ -85,6 +85,7 @@ pub record FlushLeaves (m new : Machine) : Type 0 where
   pub same : FileStays m new
   pub jobs : new.jobs ≡ m.jobs
   pub activity : new.activity ≡ m.activity
+  pub groups : (new.store.log.groups ≡ m.store.log.groups) ⊎ (new.store.log.groups ≡ [])
   pub uses : (new.uses ≡ m.uses) ⊎ ((page : ℕ) × (oldest_dirty m.uses ≡ Some page) × (new.uses ≡ in_place page clean m.uses))
 
 forced_same : (files : Option Files) → option_map current_file (option_map forced_files files) ≡ option_map current_file files
@@ -92,28 +93,29 @@ forced_same None = refl
 forced_same (Some files) = refl
 
 module _ (m : Machine) (outcome : Outcome) (new : Machine) where
-  leaves : (other : Machine) → new ≡ other → file_now other ≡ file_now m → other.store.meta ≡ m.store.meta → other.jobs ≡ m.jobs → other.activity ≡ m.activity → (other.uses ≡ m.uses) ⊎ ((page : ℕ) × (oldest_dirty m.uses ≡ Some page) × (other.uses ≡ in_place page clean m.uses)) → FlushLeaves m new
-  leaves other is file meta jobs activity uses = record {
+  leaves : (other : Machine) → new ≡ other → file_now other ≡ file_now m → other.store.meta ≡ m.store.meta → other.jobs ≡ m.jobs → other.activity ≡ m.activity → (other.store.log.groups ≡ m.store.log.groups) ⊎ (other.store.log.groups ≡ []) → (other.uses ≡ m.uses) ⊎ ((page : ℕ) × (oldest_dirty m.uses ≡ Some page) × (other.uses ≡ in_place page clean m.uses)) → FlushLeaves m new
+  leaves other is file meta jobs activity groups uses = record {
     same = record { file = ap file_now is ∙ file; meta = ap (λ (x : Machine). x.store.meta) is ∙ meta };
     jobs = ap (λ (x : Machine). x.jobs) is ∙ jobs;
     activity = ap (λ (x : Machine). x.activity) is ∙ activity;
+    groups = subst (λ (x : Machine). (x.store.log.groups ≡ m.store.log.groups) ⊎ (x.store.log.groups ≡ [])) (sym is) groups;
     uses = subst (λ (x : Machine). (x.uses ≡ m.uses) ⊎ ((page : ℕ) × (oldest_dirty m.uses ≡ Some page) × (x.uses ≡ in_place page clean m.uses))) (sym is) uses;
   }
 
   stays_file : (said : Outcome) → StaysSo m said outcome new → FlushLeaves m new
-  stays_file said so = leaves m so.1 refl refl refl refl (inl refl)
+  stays_file said so = leaves m so.1 refl refl refl refl (inl refl) (inl refl)
 
   fails_file : {most : ℕ} → FailsToWrite m most outcome new → FlushLeaves m new
-  fails_file fails = leaves _ fails.stops refl refl refl refl (inl refl)
+  fails_file fails = leaves _ fails.stops refl refl refl refl (inl refl) (inl refl)
 
   forces_file : ForcesAll m outcomes.Moved outcome new → FlushLeaves m new
-  forces_file (inl (says, is)) = leaves _ is (forced_same m.files) refl refl refl (inl refl)
+  forces_file (inl (says, is)) = leaves _ is (forced_same m.files) refl refl refl (inr refl) (inl refl)
   forces_file (inr badly) = fails_file badly.1
 
   rest_file : FlushesRest m outcomes.Moved (StaysSo m outcomes.Idle outcome new) outcome new → FlushLeaves m new
-  rest_file (inl (page, oldest, inl well)) = leaves _ well.leaves refl refl refl refl (inr (page, oldest, refl))
+  rest_file (inl (page, oldest, inl well)) = leaves _ well.leaves refl refl refl refl (inl refl) (inr (page, oldest, refl))
   rest_file (inl (page, oldest, inr fails)) = fails_file fails
-  rest_file (inr (inl (old, inl turns))) = leaves _ turns.leaves refl refl refl refl (inl refl)
+  rest_file (inr (inl (old, inl turns))) = leaves _ turns.leaves refl refl refl refl (inr refl) (inl refl)
   rest_file (inr (inl (old, inr fails))) = fails_file fails
   rest_file (inr (inr (flushed, so))) = stays_file outcomes.Idle so
 

@@ -5,7 +5,7 @@ use Rattle.hb_activity.specs.declared.activities.Activity.{Activity}
 use Rattle.hb_space.specs.Actors.{IsActor}
 use Rattle.hb_disk.specs.Model.{DiskModel}
 use Rattle.hb_layout.specs.declared.meta.Meta.{Meta}
-use Rattle.hb_core.specs.BetweenLaws.{CountsStayWithin, HeightIsCounted, LookingKeepsAll, WaitingKeepsAll}
+use Rattle.hb_core.specs.BetweenLaws.{CountsStayWithin, LookingKeepsAll, WaitingKeepsAll}
 use Rattle.hb_core.specs.Counting.{CountsWithin}
 use Rattle.hb_steps.specs.Machines.{Machine}
 use Rattle.hb_core.specs.Runs.{RunningLaws}
@@ -14,7 +14,7 @@ use Rattle.hb_steps.specs.SteppingLaws.{IsAtRest}
 use Rattle.hb_core.specs.Relied.{MayRun}
 use Rattle.hb_core.specs.Working.{MayStep}
 use Rattle.hb_tidy.specs.declared.stops.TidyStop.{TidyStop}
-use Rattle.hb_tidy.specs.Counted.{CountsRise, EndsSpent}
+use Rattle.hb_tidy.specs.Counted.{EndsSpent}
 use Rattle.hb_tidy.specs.Tidying.{HasTidied, StopsTidying}
 use Rattle.hb_tidy.specs.Working.{HasWorked}
 
@@ -24,7 +24,6 @@ pub record TidyLaws : Type 0 where
   pub waiting : WaitingKeepsAll
   pub looking : LookingKeepsAll
   pub counts : CountsStayWithin
-  pub height : HeightIsCounted
 
 -- A core may go on: it isn't stopped, no more operations of a kind were counted than steps, and the count of steps has some left.
 pub record MayTidy (d : DiskModel) (c : RunningCore) : Type 0 where
@@ -45,7 +44,7 @@ RestsBut actor c = (other : ℕ) → IsActor other → other ≢ actor → (a : 
 abbrev pub AllRest : RunningCore → Type 0
 AllRest c = RestsBut 0 c
 
--- A call, from one machine that the core showed, and from each of them, with its counts. Where it ends well the core may go on.
+-- A call, from one machine that the core showed, and from each of them. Where it ends well the core may go on.
 pub record Does {T : Type 0} (result : Result T TidyStop) (d : DiskModel) (old : RunningCore) (m : Machine) (e : DiskModel) (c : RunningCore) : Type 0 where
   pub run : HasTidied d m e c
   pub worked : HasWorked result old m c run.new
@@ -53,6 +52,5 @@ pub record Does {T : Type 0} (result : Result T TidyStop) (d : DiskModel) (old :
 
 pub record Goes {T : Type 0} (result : Result T TidyStop) (d : DiskModel) (old : RunningCore) (e : DiskModel) (new : RunningCore) : Type 0 where
   pub does : (m : Machine) → MayStep d old m → Does result d old m e new
-  pub counts : CountsRise old new
   pub spent : EndsSpent result new
   pub may : OnOk result (MayTidy e new)

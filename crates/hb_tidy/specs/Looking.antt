@@ -12,7 +12,7 @@ use Rattle.hb_core.specs.Showing.{RunningCore}
 use Rattle.hb_core.specs.Working.{MayStep}
 use Rattle.hb_tidy.specs.declared.stops.TidyStop.{TidyStop}
 use Rattle.hb_tidy.specs.declared.stops.TidyStop.TheVariants as stops
-use Rattle.hb_tidy.specs.Counted.{CountsRise, EndsSpent}
+use Rattle.hb_tidy.specs.Counted.{EndsSpent}
 use Rattle.hb_tidy.specs.Going.{AllRest, Does, MayTidy}
 use Rattle.hb_tidy.specs.Owed.{FindsJobs}
 use Rattle.hb_tidy.specs.Tidying.{file_now}
@@ -28,11 +28,10 @@ pub record Looks {T : Type 0} (result : Result T TidyStop) (says : T → FileSta
   pub same : FileStays m does.run.new
   pub ok : IfOk result (λ v. IfSome (file_now m) (says v))
 
--- From each machine that the core showed of whose file this is known already; with the counts. Where no job waits, none did before; and
--- nobody comes to have anything in hand.
+-- From each machine that the core showed of whose file this is known already. Where no job waits, none did before; and nobody comes to
+-- have anything in hand.
 pub record LooksOver {T : Type 0} (knows : FileState → Type 0) (result : Result T TidyStop) (says : T → FileState → Type 0) (d : DiskModel) (old : RunningCore) (e : DiskModel) (new : RunningCore) : Type 0 where
   pub looks : (m : Machine) → MayStep d old m → IfSome (file_now m) knows → Looks result says d old m e new
-  pub counts : CountsRise old new
   pub spent : EndsSpent result new
   pub may : OnOk result (MayTidy e new)
   pub meta : new.store.meta ≡ old.store.meta

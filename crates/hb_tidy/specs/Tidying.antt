@@ -1,5 +1,5 @@
 -- What a tidying comes to, from a machine that a core shows to one that it shows then, and how it ends.
-use Rattle.std.specs.Prelude.{◌≡◌, ◌+◌, ◌<◌, ◌-◌, ◌^◌, [], Result, Ok, Err, IfSome, IsSome, Option, Some, None, option_map}
+use Rattle.std.specs.Prelude.{◌≡◌, ◌-◌, ◌^◌, [], Result, Ok, Err, IfSome, IsSome, Option, Some, None, option_map}
 use Rattle.hb_disk.specs.Calls.{Becomes}
 use Rattle.hb_disk.specs.Model.{DiskModel}
 use Rattle.hb_layout.specs.Offsets.{file_size}
@@ -67,18 +67,7 @@ StopsTidying (stops.Damaged page why) d e c new = (¬ (IsSome d.told)) × (new.s
 StopsTidying stops.Spent d e c new = c.taken ≡ 2 ^ 64 - 1
 StopsTidying stops.NoMemory d e c new = Unit {0}
 
--- The counts say by how much each count of the core rose. The file's height rose by its growths, and its pages in use by growths
--- and splits, less merges. There are steps left.
-pub record HasCounted (old c : RunningCore) (counts : TidyCounts) : Type 0 where
-  pub left : c.taken < 2 ^ 64 - 1
-  pub grown : c.done.grown ≡ old.done.grown + counts.grown
-  pub posted : c.done.posted ≡ old.done.posted + counts.posted
-  pub split : c.done.split ≡ old.done.split + counts.split
-  pub merged : c.done.merged ≡ old.done.merged + counts.merged
-  pub height : c.store.meta.height ≡ old.store.meta.height + counts.grown
-  pub live : c.store.meta.live + counts.merged ≡ old.store.meta.live + (counts.grown + counts.split)
-
--- how it ends
-abbrev pub EndsTidying : DiskModel → DiskModel → RunningCore → RunningCore → Machine → Result TidyCounts TidyStop → Type 0
-EndsTidying d e old c new (Ok counts) = (new.stop ≡ None) × IfSome (file_now new) IsTidy × HasCounted old c counts
-EndsTidying d e old c new (Err stop) = StopsTidying stop d e c new
+-- How it ends. Where it is done, it says which operations were done.
+abbrev pub EndsTidying : DiskModel → DiskModel → RunningCore → TidyCounts → Machine → Result TidyCounts TidyStop → Type 0
+EndsTidying d e c did new (Ok counts) = (new.stop ≡ None) × IfSome (file_now new) IsTidy × (counts ≡ did)
+EndsTidying d e c did new (Err stop) = StopsTidying stop d e c new

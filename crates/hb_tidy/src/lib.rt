@@ -17,9 +17,9 @@ ghost use Rattle.std.specs.Prelude.{◌≡◌};
 ghost use Rattle.hb_core.specs.CoreSeen.{core_seen, core_disk};
 ghost use Rattle.hb_steps.specs.Machines.{Machine};
 ghost use Rattle.hb_core.specs.Working.{MayStep};
-ghost use Rattle.hb_tidy.specs.Counted.{AreAtMost, CountsRise, EndsSpent, added};
+ghost use Rattle.hb_tidy.specs.Counted.{AreAtMost, EndsSpent, added};
 ghost use Rattle.hb_tidy.specs.Tidying.{EndsTidying, HasTidied, MayBeTidied};
-ghost use Rattle.hb_tidy.specs.Working.{HasWorked};
+ghost use Rattle.hb_tidy.specs.Working.{HasWorked, operations_in};
 
 mod below;
 mod finding;
@@ -54,9 +54,8 @@ pub fn tidy<D: Device>(alloc: Global, core: &mut Core<D>) -> Result<TidyCounts, 
     requires { MayBeTidied (D.model (core_disk core.old)) (core_seen core.old) }
     ensures tidies { (m : Machine) → MayStep (D.model (core_disk core.old)) (core_seen core.old) m →
         (t : HasTidied (D.model (core_disk core.old)) m (D.model (core_disk core.new)) (core_seen core.new))
-        × HasWorked result (core_seen core.old) m (core_seen core.new) t.new
-        × EndsTidying (D.model (core_disk core.old)) (D.model (core_disk core.new)) (core_seen core.old) (core_seen core.new) t.new result }
-    ensures rise { CountsRise (core_seen core.old) (core_seen core.new) }
+        × (w : HasWorked result (core_seen core.old) m (core_seen core.new) t.new)
+        × EndsTidying (D.model (core_disk core.old)) (D.model (core_disk core.new)) (core_seen core.new) (operations_in w.events) t.new result }
     ensures spent { EndsSpent result (core_seen core.new) }
 {
     runs_go_on();

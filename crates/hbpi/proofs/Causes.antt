@@ -1,42 +1,22 @@
 -- A line is `full` by its cause: at a machine on the way its page lacks the point and room, and no page is free.
 use Rattle.std.proofs.Common.{◌≡◌, ℕ, List, [], ◌∷◌, ◌++◌, All, refl, sym, ap, subst, ◌∙◌, append-nil, append_assoc}
 use Rattle.std.proofs.lemmas.List.Elements.{All-head, All-nil, All-tail, All-weaker}
-use Rattle.hb_steps.specs.CauseLaws.{FullByCause, SplitFindsNoPage}
 use Rattle.hb_steps.specs.KeptMachine.{MachineKeeps}
-use Rattle.hb_steps.specs.Laws.{AnswersAreTimed}
-use Rattle.hb_steps.specs.MachineLaws.{MachineStaysKept}
 use Rattle.hb_steps.specs.Machines.{Machine}
 use Rattle.hb_steps.specs.Performing.{given_by}
 use Rattle.hb_steps.specs.Steps.{StepsInSequence, StepsTo}
-use Rattle.hb_steps.specs.SteppingLaws.{BeginningKeeps}
 use Rattle.hb_steps.specs.declared.outcomes.Outcome.{Outcome}
 use Rattle.hb_steps.specs.declared.outcomes.Outcome.TheVariants as outcomes
+use Rattle.hb_disk.specs.Model.{DiskModel}
 use Rattle.hb_space.specs.Actors.{IsActor}
 use Rattle.hb_lemmas.proofs.Lists.{All-alone, All-parts}
 use Rattle.hb_set.specs.declared.commands.Reply.{Reply}
 use Rattle.hb_set.specs.declared.commands.Reply.TheVariants as replies
 use Rattle.hb_set.specs.declared.scripts.Answered.{Answered}
-use Rattle.hbpi.specs.Driven.{Manner}
-use Rattle.hbpi.specs.StepEnds.{Drove}
-use Rattle.hbpi.specs.SeenRuns.{Run}
-
--- These steps have a front that leads to a machine at which the next one finds no page.
-pub record FullOnWay (m : Machine) (actors : List ℕ) (number : ℕ) : Type 0 where
-  pub front : List ℕ
-  pub actor : ℕ
-  pub rest : List ℕ
-  pub parts : actors ≡ front ++ actor ∷ rest
-  pub here : Machine
-  pub reached : StepsInSequence front m here
-  pub cause : SplitFindsNoPage here actor number
-
-abbrev pub IsFullByCause : Machine → List ℕ → Answered → Type 0
-IsFullByCause m actors a = a.reply ≡ replies.Full → FullOnWay m actors a.line
-
-pub record CauseLaws : Type 0 where
-  pub kept : MachineStaysKept
-  pub full : FullByCause
-  pub timed : AnswersAreTimed
+use Rattle.hb_set.specs.declared.scripts.Line.{Line}
+use Rattle.hbpi.specs.Drives.{TakesSteps}
+use Rattle.hbpi.specs.OnTheWay.{FullOnWay, IsFullByCause}
+use Rattle.hbpi.specs.Starts.{StartLaws}
 
 -- the answers that came of steps
 pub record CameByCause (m : Machine) (actors : List ℕ) (new : Machine) : Type 0 where
@@ -44,7 +24,7 @@ pub record CameByCause (m : Machine) (actors : List ℕ) (new : Machine) : Type 
   pub answered : new.answered ≡ m.answered ++ came
   pub causes : All (IsFullByCause m actors) came
 
-given_by_cause : (laws : CauseLaws) (m : Machine) (actor : ℕ) (rest : List ℕ) (outcome : Outcome) (next : Machine) (at : ℕ) → MachineKeeps m → StepsTo m actor outcome next → All (IsFullByCause m (actor ∷ rest)) (given_by outcome at)
+given_by_cause : (laws : StartLaws) (m : Machine) (actor : ℕ) (rest : List ℕ) (outcome : Outcome) (next : Machine) (at : ℕ) → MachineKeeps m → StepsTo m actor outcome next → All (IsFullByCause m (actor ∷ rest)) (given_by outcome at)
 given_by_cause laws m actor rest (outcomes.Answered number reply) next at keeps step =
     All-alone (IsFullByCause m (actor ∷ rest)) (record { line = number; reply = reply; at = at }) (λ full. record {
       front = [];
@@ -73,7 +53,7 @@ one_step_earlier m actor outcome next rest number step full = record {
   cause = full.cause;
 }
 
-pub came_by_cause : (laws : CauseLaws) (actors : List ℕ) (m new : Machine) → MachineKeeps m → All IsActor actors → StepsInSequence actors m new → CameByCause m actors new
+pub came_by_cause : (laws : StartLaws) (actors : List ℕ) (m new : Machine) → MachineKeeps m → All IsActor actors → StepsInSequence actors m new → CameByCause m actors new
 came_by_cause laws [] m new keeps may steps = record { came = []; answered = ap (λ (x : Machine). x.answered) steps ∙ sym (append-nil m.answered); causes = All-nil _ }
 came_by_cause laws (actor ∷ rest) m new keeps may (outcome, next, step, more) =
     let then = came_by_cause laws rest next new (laws.kept m actor outcome next (All-head IsActor actor rest may) keeps step) (All-tail IsActor actor rest may) more in
@@ -87,10 +67,9 @@ came_by_cause laws (actor ∷ rest) m new keeps may (outcome, next, step, more) 
       );
     }
 
--- so of a run, whatever its disk tells
-pub drove_by_cause : (laws : CauseLaws) (by : Manner) (run : Run) (after : Machine) → BeginningKeeps → (drove : Drove by run after) → All (IsFullByCause drove.takes.before drove.actors) after.answered
-drove_by_cause laws by run after begins drove =
-    let takes = drove.takes in
-    let came = came_by_cause laws drove.actors takes.before after (begins takes.before takes.begun) takes.actors takes.reached in
+-- so of the steps of a run, whatever its disk tells
+pub took_by_cause : (laws : StartLaws) {d e : DiskModel} {k : ℕ} {lines : List Line} {actors : List ℕ} {answered : List Answered} {order : List ℕ} {after : Machine} (takes : TakesSteps d e k lines actors answered order after) → All (IsFullByCause takes.before actors) after.answered
+took_by_cause laws {actors = actors} {after = after} takes =
+    let came = came_by_cause laws actors takes.before after (laws.first takes.before takes.begun) takes.actors takes.reached in
     let same : after.answered ≡ came.came = came.answered ∙ ap (λ (a : List Answered). a ++ came.came) takes.begun.unanswered in
-    subst (λ (a : List Answered). All (IsFullByCause takes.before drove.actors) a) (sym same) came.causes
+    subst (λ (a : List Answered). All (IsFullByCause takes.before actors) a) (sym same) came.causes

@@ -1,11 +1,12 @@
 -- How a run ends that has made its core.
 use Rattle.std.proofs.Common.{◌≡◌, ◌≢◌, inl, inr, ℕ, List, [], refl, sym, ap, subst, ◌∙◌}
 use Rattle.hb_steps.specs.Machines.{Machine}
-use Rattle.hb_core.specs.Runs.{HasRun}
+use Rattle.hb_core.specs.Runs.{ChangesFile, HasRun}
 use Rattle.hb_core.specs.Showing.{RunningCore}
 use Rattle.hb_core.specs.Relied.{MayRun, MayTakeSteps}
 use Rattle.hb_core.specs.Working.{MayStep}
 use Rattle.hb_core.specs.declared.endings.End.TheVariants as ends
+use Rattle.hb_disk.specs.Calls.{Becomes}
 use Rattle.hb_disk.specs.Model.{DiskModel}
 use Rattle.hb_layout.specs.Offsets.{file_size}
 use Rattle.hb_outside.specs.Calls.{SourceModel}
@@ -15,13 +16,14 @@ use Rattle.hb_set.specs.declared.scripts.Answered.{Answered}
 use Rattle.hb_set.specs.declared.scripts.Line.{Line}
 use Rattle.hbpi.proofs.Begins.{IsBegunHere, begins_script}
 use Rattle.hbpi.proofs.Beyond.{beyond_driven}
+use Rattle.hbpi.proofs.Causes.{took_by_cause}
+use Rattle.hbpi.proofs.OnTheWay.{undamaged, ways_have_one_page}
 use Rattle.hbpi.proofs.Opened.{is_opening}
 use Rattle.hbpi.proofs.Reopened.{takes_before}
 use Rattle.hb_restart.proofs.Facts.KeptStores.{kept_of}
-use Rattle.hbpi.proofs.StepsTaken.{is_unbegun, run_beyond, takes_steps}
-use Rattle.hbpi.specs.Driven.{IsOpened, Manner}
+use Rattle.hbpi.proofs.StepsTaken.{TakesFrom, begins_opened, is_unbegun, run_beyond, takes_steps}
+use Rattle.hbpi.specs.Driven.{BeginsOpened, IsOpened, Manner}
 use Rattle.hbpi.specs.StepEnds.{Drove, RanEnds, StepsEnd}
-use Rattle.hbpi.specs.Drives.{TakesSteps}
 use Rattle.hbpi.specs.Handing.{HandsOver, RunLeft}
 use Rattle.hbpi.specs.Outcome.{GetsLine, fault_line}
 use Rattle.hbpi.specs.Schedules.{CameFrom, CameNot}
@@ -37,7 +39,7 @@ use Rattle.hbpi.specs.declared.statuses.Status.TheVariants.{NoMemory}
 pub record RanCore {X Y : Type 0} (M : X → DiskModel) (by : Manner) (first : X) (core : RunningCore) (left : RunLeft X Y) (last : X) (d : DiskModel) (seen : Seen) (status : Status) : Type 0 where
   pub unbegun : left.end ≡ ends.NoMemory → (left.core ≡ core) × (left.disk ≡ first) × (left.answered ≡ []) × (status ≡ NoMemory) × GetsLine seen.sink_before seen.sink_after (fault_line status)
   pub goes : left.end ≢ ends.NoMemory → (m : Machine) → MayStep (M first) core m → (actors : List ℕ) × (run : HasRun (M first) m actors left.answered (M left.disk) left.core) × by.goes core.steps actors run.new
-      × (Drove by (run_of seen d (M last)) run.new → RanEnds by status (run_of seen d (M last)) run.new)
+      × (Drove by (run_of M seen d (M last)) run.new → RanEnds by status (run_of M seen d (M last)) run.new)
   pub hands : HandsOver left.disk last left.answered seen.answered left.core.order seen.order
 
 -- a machine that has taken no step, which a core shows that was made
@@ -67,7 +69,7 @@ no_room (Drawn state count) k before after lines steps source came = (refl, came
 
 module _ {X Y : Type 0} (M : X → DiskModel) (by : Manner) (first : X) (core : RunningCore) (left : RunLeft X Y) (last : X) (d : DiskModel) (seen : Seen) (status : Status)
     (facts : RanCore M by first core left last d seen status) (laws : StartLaws) (started : IsStarted by.origin seen.source_before seen.source_after d (M first) core) where
-  ran_here : left.end ≢ ends.NoMemory → StepsEnd by (run_of seen d (M last)) status
+  ran_here : left.end ≢ ends.NoMemory → StepsEnd by (run_of M seen d (M last)) status
   ran_here some =
       let made = started.made in
       let store = started.store in
@@ -77,25 +79,31 @@ module _ {X Y : Type 0} (M : X → DiskModel) (by : Manner) (first : X) (core : 
       let actors = went.0 in
       let run = went.1 in
       let new = run.new in
-      let takes : TakesSteps (M first) (M left.disk) store.meta.k made.lines actors left.answered left.core.order new =
+      let takes : TakesFrom here.0 (M first) (M left.disk) store.meta.k made.lines actors left.answered left.core.order new =
       takes_steps (M first) (M left.disk) made.lines made.steps actors store left.core left.answered here.0 laws.beginning laws.begun started.disk started.opens.is_new here.1 run in
-      let on_disk = subst (λ (x : X). TakesSteps (M first) (M x) store.meta.k made.lines actors left.answered left.core.order new) (sym facts.hands.disk_is) takes in
-      let with_order = subst (λ (o : List ℕ). TakesSteps (M first) (M last) store.meta.k made.lines actors left.answered o new) (sym facts.hands.order_is) on_disk in
-      let with_answers = subst (λ (a : List Answered). TakesSteps (M first) (M last) store.meta.k made.lines actors a seen.order new) (sym facts.hands.answered_is) with_order in
+      let on_disk = subst (λ (x : X). TakesFrom here.0 (M first) (M x) store.meta.k made.lines actors left.answered left.core.order new) (sym facts.hands.disk_is) takes in
+      let with_order = subst (λ (o : List ℕ). TakesFrom here.0 (M first) (M last) store.meta.k made.lines actors left.answered o new) (sym facts.hands.order_is) on_disk in
+      let with_answers = subst (λ (a : List Answered). TakesFrom here.0 (M first) (M last) store.meta.k made.lines actors a seen.order new) (sym facts.hands.answered_is) with_order in
       let opening = is_opening d (M first) store started.count started.disk started.opens started.through started.leaves in
-      let drove : Drove by (run_of seen d (M last)) new = record {
+      let taken = takes_before d (M first) (M last) store.meta.k made.lines actors seen.answered seen.order new laws.walks laws.alone laws.one opening with_answers.0 in
+      let drove : Drove by (run_of M seen d (M last)) new = record {
         k = store.meta.k;
         lines = made.lines;
         steps = made.steps;
         came = made.came;
         source = made.source;
         actors = actors;
-        takes = takes_before d (M first) (M last) store.meta.k made.lines actors seen.answered seen.order new laws.walks laws.alone laws.one opening with_answers;
+        takes = taken.0;
+        begins = subst (BeginsOpened (run_of M seen d (M last))) (sym (taken.1 ∙ with_answers.1)) (begins_opened M seen d first (M last) store started.count made.lines made.steps here.0 started.opens started.through started.leaves opening here.1
+            (subst (λ (x : X). Becomes (ChangesFile here.0.store) (M first) (M x)) (sym facts.hands.disk_is) run.in_file));
+        full = took_by_cause laws taken.0;
+        pages = λ tells. ways_have_one_page laws taken.0 tells;
+        undamaged = λ tells. undamaged laws taken.0 tells;
         goes = subst (λ (c : RunningCore). by.goes c.steps actors new) made.core_is went.2;
       } in
       inr (inr (new, drove, went.3 drove))
 
-  did_not : left.end ≡ ends.NoMemory → StepsEnd by (run_of seen d (M last)) status
+  did_not : left.end ≡ ends.NoMemory → StepsEnd by (run_of M seen d (M last)) status
   did_not none =
       let made = started.made in
       let still = facts.unbegun none in
@@ -111,7 +119,7 @@ module _ {X Y : Type 0} (M : X → DiskModel) (by : Manner) (first : X) (core : 
         why = subst (λ (x : Status). CameNot by.origin started.store.meta.k seen.source_before seen.source_after x) (sym still.3) (no_room by.origin started.store.meta.k seen.source_before seen.source_after made.lines made.steps made.source made.came);
       }))
 
-  pub core_ends : StepsEnd by (run_of seen d (M last)) status
+  pub core_ends : StepsEnd by (run_of M seen d (M last)) status
   core_ends = elim (is_unbegun left.end) [ inl none ↦ did_not none | inr some ↦ ran_here some ]
 
   -- what lies behind the file is as it was

@@ -81,7 +81,7 @@ module _ {X Y Z : Type 0} (M : X → DiskModel) (S : Z → SinkModel) (state cou
   seen = seen_by before after (S sink) (S back.sink) back.answered back.order
 
   abbrev whole : Run
-  whole = run_of seen d (M back.disk)
+  whole = run_of M seen d (M back.disk)
 
   -- the lines of the core are those that were drawn
   in_place : (m : Machine) (actors : List ℕ) → MayStep (M first) core m → (drives : DrivesTo m actors left.answered (M first) (M left.disk) left.core left.end nowhere nowhere) → (drives.run.new.lines ≡ left.core.lines) × NumbersArePlaces left.core.lines

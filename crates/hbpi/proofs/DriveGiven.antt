@@ -1,10 +1,9 @@
 -- What `drive`, `run` and `work` answer where nothing failed.
 use Rattle.std.proofs.Common.{◌≡◌, ◌⊎◌, inl, inr, ℕ, Bool, List, [], Option, Some, Result, Ok, Err, refl, sym, ap, subst, ◌∙◌}
 use Rattle.hb_steps.specs.DamageLaws.{IsUndamaged}
-use Rattle.hb_steps.specs.KeepingLaws.{BegunKeepsAll}
 use Rattle.hb_steps.specs.Machines.{Machine}
 use Rattle.hb_gen.specs.Lines.{generated}
-use Rattle.hb_lemmas.proofs.Options.{at_value}
+use Rattle.hb_lemmas.proofs.Options.{at_value, has_value}
 use Rattle.hb_layout.specs.declared.meta.Meta.{Meta}
 use Rattle.hb_ops.specs.Files.{FileState}
 use Rattle.hb_outside.specs.Streams.{Rose}
@@ -39,13 +38,6 @@ scheduled_reads : (step_lines : Bool) (k n : ℕ) (left : List ℕ) (seen : Seen
 scheduled_reads step_lines k n left seen lines steps same text scheduled =
     let whole = subst (λ (o : Option (List ℕ)). IsWholeText o seen.source_after.left scheduled.text) text scheduled.whole in
     ap (λ (m : ℕ). text_read step_lines m left) (sym same) ∙ ap (text_read step_lines n) (sym whole.0) ∙ scheduled.says
-
--- a machine that a beginning over a sound file comes to is met damaged nowhere
-pub undamaged : (by : Manner) (run : Run) (after : Machine) (b : List ℕ) → BegunKeepsAll → run.before.told ≡ Some b → Drove by run after → IsUndamaged after
-undamaged by run after b all told drove =
-    let takes = drove.takes in
-    let here = at_value run.before.told _ b told takes.told in
-    (all here.0 drove.actors takes.before after here.3 takes.actors takes.reached).1.undamaged (inl takes.begun.runs)
 
 no_damage : (after : Machine) (page : ℕ) (why : Why) → IsUndamaged after → after.stop ≡ Some (stops.Damaged page why) → ⊥
 no_damage after page why fine is = elim fine [
@@ -115,17 +107,17 @@ module _ (by : Manner) (s : FileState) (left : List ℕ) (run : Run) (calm : IsC
   ran_done Full after drove fine ends sink = absurd ends
   ran_done Spent after drove fine ends sink = absurd ends
 
-  ran_gives : (status : Status) (after : Machine) → OpensToOne → BegunKeepsAll → Drove by run after → RanEnds by status run after → GivesFor run.seen status (read_from by.origin s.meta.k left)
-  ran_gives status after one all drove ends =
+  ran_gives : (status : Status) (after : Machine) → OpensToOne → Drove by run after → RanEnds by status run after → GivesFor run.seen status (read_from by.origin s.meta.k left)
+  ran_gives status after one drove ends =
       subst (λ (r : Result Reading BadLine). GivesFor run.seen status r) (sym (came_reads by.origin s.meta.k drove.k left run.seen drove.lines drove.steps (drove_k after drove one) calm.text drove.came))
-      (λ sink. ran_done status after drove (undamaged by run after calm.bytes all calm.told drove) ends sink)
+      (λ sink. ran_done status after drove (drove.undamaged (has_value run.before.told calm.bytes calm.told)) ends sink)
 
 -- Where nothing fails, a good text is worked off over a good file, and a bad text is refused.
-pub is_driven : (by : Manner) (run : Run) (status : Status) → OpensToOne → GoodIsNotRefused → BegunKeepsAll → StepsEnd by run status → IsDriven by.origin run status
-is_driven by run status one good all ends s left calm = elim ends [
+pub is_driven : (by : Manner) (run : Run) (status : Status) → OpensToOne → GoodIsNotRefused → StepsEnd by run status → IsDriven by.origin run status
+is_driven by run status one good ends s left calm = elim ends [
   | inl shut ↦ shut_gives by s left run calm status shut.0 good shut.1 shut.2
   | inr opened ↦ elim opened [
     | inl away ↦ came_gives by.origin s.meta.k away.k left run.seen status (opened_k away.k run.before run.after calm.bytes s away.opened calm.told calm.opens) calm.text calm.source away.why
-    | inr ran ↦ ran_gives by s left run calm status ran.0 one all ran.1 ran.2
+    | inr ran ↦ ran_gives by s left run calm status ran.0 one ran.1 ran.2
   ]
 ]

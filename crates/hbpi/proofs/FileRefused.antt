@@ -1,5 +1,5 @@
 -- A file that doesn't open is refused, in one way.
-use Rattle.std.proofs.Common.{◌≡◌, ◌⊎◌, inl, inr, ℕ, List, refl, ap, subst, ◌∙◌}
+use Rattle.std.proofs.Common.{◌≡◌, ◌⊎◌, inl, inr, ℕ, List, Some, refl, ap, subst, ◌∙◌}
 use Rattle.hb_lemmas.proofs.Options.{at_value}
 use Rattle.hb_ops.specs.Files.{FileState}
 use Rattle.hb_ops.specs.Sound.{IsSound}
@@ -8,7 +8,10 @@ use Rattle.hb_restart.specs.declared.faults.OpenFault.{OpenFault}
 use Rattle.hb_restart.specs.declared.faults.OpenFault.TheVariants as faults
 use Rattle.hb_store.specs.Opening.{OpensTo}
 use Rattle.hbpi.specs.Codes.{status_of}
-use Rattle.hbpi.specs.Driven.{Manner}
+use Rattle.hbpi.specs.Checked.{CheckEnds}
+use Rattle.hbpi.specs.Driven.{IsShutOut, Manner}
+use Rattle.hbpi.specs.Mapped.{MapEnds}
+use Rattle.hbpi.specs.TidyRuns.{TidyEnds}
 use Rattle.hbpi.specs.StepEnds.{StepsEnd}
 use Rattle.hbpi.specs.Promises.{RefusesFile}
 use Rattle.hbpi.specs.SeenRuns.{Run}
@@ -54,14 +57,30 @@ opened_sound bytes status good opens = (
   λ fault that unwritten. absurd (never fault unwritten (good fault bytes opens.0 opens.1 opens.2 that)),
 )
 
-pub refuses_file : (by : Manner) (run : Run) (status : Status) → GoodIsNotRefused → IsRefusedOnce → StepsEnd by run status → RefusesFile run status
-refuses_file by run status good once ends bytes told calm = elim ends [
+-- a file that wasn't opened, or one that was
+pub refuses_opening : (run : Run) (status : Status) → GoodIsNotRefused → IsRefusedOnce → ((fault : OpenFault) × (status ≡ status_of fault) × IsShutOut run fault) ⊎ ((bytes : List ℕ) → run.before.told ≡ Some bytes → OpensSound bytes) → RefusesFile run status
+refuses_opening run status good once ends bytes told calm = elim ends [
   | inl shut ↦
       let why = at_value run.before.told _ bytes told shut.2.why.why in
       let held : shut.0 ≡ faults.DiskFault → ⊥ = λ is. calm (shut.2.leaves.faults.cause is) in
       (λ none. of_bytes shut.0 bytes status shut.1 why held, λ fault that unwritten. is_same shut.0 fault bytes status once shut.1 why held that unwritten)
-  | inr opened ↦ elim opened [
-    | inl away ↦ let here = at_value run.before.told _ bytes told away.opened.opens.file in opened_sound bytes status good (here.0, here.1, here.2)
-    | inr ran ↦ let here = at_value run.before.told _ bytes told ran.1.takes.told in opened_sound bytes status good (here.0, here.1, here.2)
-  ]
+  | inr opened ↦ opened_sound bytes status good (opened bytes told)
 ]
+
+pub refuses_file : (by : Manner) (run : Run) (status : Status) → GoodIsNotRefused → IsRefusedOnce → StepsEnd by run status → RefusesFile run status
+refuses_file by run status good once ends = refuses_opening run status good once (elim ends [
+  | inl shut ↦ inl shut
+  | inr opened ↦ elim opened [ inl away ↦ inr (λ b is. let here = at_value run.before.told _ b is away.opened.opens.file in (here.0, here.1, here.2)) | inr ran ↦ inr (λ b is. let here = at_value run.before.told _ b is ran.1.takes.told in (here.0, here.1, here.2)) ]
+])
+
+pub check_refuses : (run : Run) (status : Status) → GoodIsNotRefused → IsRefusedOnce → CheckEnds run status → RefusesFile run status
+check_refuses run status good once ends = refuses_opening run status good once (elim ends [ inl shut ↦ inl shut | inr done ↦ inr (λ b is. let here = at_value run.before.told _ b is done.2.opens.file in (here.0, here.1, here.2)) ])
+
+pub map_refuses : (run : Run) (status : Status) → GoodIsNotRefused → IsRefusedOnce → MapEnds run status → RefusesFile run status
+map_refuses run status good once ends = refuses_opening run status good once (elim ends [ inl shut ↦ inl shut | inr done ↦ inr (λ b is. let here = at_value run.before.told _ b is done.2.1.opens.file in (here.0, here.1, here.2)) ])
+
+pub tidy_refuses : (run : Run) (status : Status) → GoodIsNotRefused → IsRefusedOnce → TidyEnds run status → RefusesFile run status
+tidy_refuses run status good once ends = refuses_opening run status good once (elim ends [
+  | inl shut ↦ inl shut
+  | inr opened ↦ elim opened [ inl away ↦ inr (λ b is. let here = at_value run.before.told _ b is away.opened.opens.file in (here.0, here.1, here.2)) | inr tidied ↦ inr (λ b is. let here = at_value run.before.told _ b is tidied.2.told in (here.0, here.1, here.2)) ]
+])

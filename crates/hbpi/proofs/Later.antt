@@ -228,14 +228,14 @@ module _ {X : Type 0} (M : X → DiskModel) (seen : Seen) (old new : X) (status 
     same_later (M old).write_faults (M new).write_faults (ap (λ (x : X). (M x).write_faults) is),
   )
 
-  pub ends_disk_later : (form : Option Form) → RunEnds form (run_of seen (M old) (M new)) status → (LeavesDisk form status → new ≡ old) → DiskLater (M old) (M new)
+  pub ends_disk_later : (form : Option Form) → RunEnds form (run_of M seen (M old) (M new)) status → (LeavesDisk form status → new ≡ old) → DiskLater (M old) (M new)
   ends_disk_later None ends untouched = kept_disk (untouched tt)
   ends_disk_later (Some (Dry k)) ends untouched = kept_disk (untouched tt)
-  ends_disk_later (Some (Create k pages log dcap icap)) ends untouched = create_disk (first_fault k pages log dcap icap) (size_of pages log) (run_of seen (M old) (M new)) status ends
-  ends_disk_later (Some forms.Run) ends untouched = steps_disk by_threads (run_of seen (M old) (M new)) status ends
-  ends_disk_later (Some Drive) ends untouched = steps_disk by_schedule (run_of seen (M old) (M new)) status ends
-  ends_disk_later (Some (Work x n)) ends untouched = steps_disk (by_counting x n) (run_of seen (M old) (M new)) status ends
-  ends_disk_later (Some Check) ends untouched = check_disk (run_of seen (M old) (M new)) status ends
-  ends_disk_later (Some Map) ends untouched = map_disk (run_of seen (M old) (M new)) status ends
-  ends_disk_later (Some Tidy) ends untouched = tidy_disk (run_of seen (M old) (M new)) status ends
+  ends_disk_later (Some (Create k pages log dcap icap)) ends untouched = create_disk (first_fault k pages log dcap icap) (size_of pages log) (run_of M seen (M old) (M new)) status ends
+  ends_disk_later (Some forms.Run) ends untouched = steps_disk by_threads (run_of M seen (M old) (M new)) status ends
+  ends_disk_later (Some Drive) ends untouched = steps_disk by_schedule (run_of M seen (M old) (M new)) status ends
+  ends_disk_later (Some (Work x n)) ends untouched = steps_disk (by_counting x n) (run_of M seen (M old) (M new)) status ends
+  ends_disk_later (Some Check) ends untouched = check_disk (run_of M seen (M old) (M new)) status ends
+  ends_disk_later (Some Map) ends untouched = map_disk (run_of M seen (M old) (M new)) status ends
+  ends_disk_later (Some Tidy) ends untouched = tidy_disk (run_of M seen (M old) (M new)) status ends
   ends_disk_later (Some (Gen x n k)) ends untouched = kept_disk (untouched tt)

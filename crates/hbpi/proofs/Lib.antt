@@ -7,6 +7,7 @@ pub mod Later
 pub mod RunsOf
 pub mod DryRuns
 pub mod Beyond
+pub mod OnTheWay
 pub mod Opened
 pub mod ShutOut
 pub mod StepsTaken
@@ -33,5 +34,6 @@ pub mod AllAnswered
 pub mod RecordsLeft
 pub mod CountingEnds
 pub mod WorkPromises
+pub mod Promised
 pub mod Causes
 pub mod Begins

@@ -4,14 +4,13 @@ use Rattle.hb_layout.specs.declared.meta.Meta.{Meta}
 use Rattle.hb_lemmas.proofs.Options.{at_value}
 use Rattle.hb_map.specs.Map.{map_text}
 use Rattle.hb_ops.specs.Files.{FileState}
-use Rattle.hb_ops.specs.Sound.{IsSound}
 use Rattle.hb_outside.specs.Streams.{Appends, Rose}
 use Rattle.hb_restart.specs.Refusals.{GoodIsNotRefused}
 use Rattle.hb_store.specs.Opening.{IsEven, OpensTo, OpensToOne}
 use Rattle.hbpi.proofs.Opened.{even_store}
 use Rattle.hbpi.proofs.Promises.{not_done}
 use Rattle.hbpi.proofs.SaidWhole.{shut_for_memory}
-use Rattle.hbpi.specs.Mapped.{KeepsMapped, MapEnds, MapsWith}
+use Rattle.hbpi.specs.Mapped.{IsMappedWhole, KeepsMapped, MapEnds, MapsWith}
 use Rattle.hbpi.specs.SeenRuns.{HasFailed, Run}
 use Rattle.hbpi.specs.declared.statuses.Status.{Status}
 use Rattle.hbpi.specs.declared.statuses.Damage.TheVariants as damages
@@ -51,10 +50,8 @@ maps_whole run meta text (Small needed found) b told calm sink ends = absurd end
 maps_whole run meta text Full b told calm sink ends = absurd ends
 maps_whole run meta text Spent b told calm sink ends = absurd ends
 
--- Over a disk that tells and opens to a sound file the map is whole, unless a call failed or memory was refused.
-pub map_whole : GoodIsNotRefused → (s : FileState) (run : Run) (status : Status) (b : List ℕ) → run.before.told ≡ Some b → OpensTo b s → IsSound s → ¬ (HasFailed run) → ¬ (Rose run.seen.sink_before.faults run.seen.sink_after.faults) → MapEnds run status
-    → (status ≡ Done) ⊎ (status ≡ NoMemory)
-map_whole good s run status b told opens sound calm sink ends = elim ends [
+pub map_whole : GoodIsNotRefused → (s : FileState) (run : Run) (status : Status) → MapEnds run status → IsMappedWhole s run status
+map_whole good s run status ends b told opens sound calm sink = elim ends [
   | inl shut ↦ inr (shut_for_memory good s run status b told opens sound calm shut.0 shut.1 shut.2)
   | inr mapped ↦ maps_whole run mapped.0.meta mapped.1 status b told calm sink mapped.4
 ]

@@ -50,10 +50,10 @@ pub record PutMap (result : Result (Unit {0}) MapStop) (d m e : DiskModel) (old 
   pub silent_done : map_status result ≡ Done → seen.sink_after ≡ mid
   pub alone : IsAlone seen
 
-module _ (d m e : DiskModel) (old new : StoreHeld) (count : ℕ) (seen : Seen) (mid : SinkModel) where
+module _ {X : Type 0} (M : X → DiskModel) (d m e : DiskModel) (old new : StoreHeld) (count : ℕ) (seen : Seen) (mid : SinkModel) where
   -- a front of the text with the fault line behind it
   front_line : (stop : MapStop) (text : List ℕ) → stop ≢ stops.SinkFault → PutsText {T = Unit {0}} text (Err stop) seen.sink_before.written mid.written → Counts (IsErrOf {T = Unit {0}} (Err stop) stops.SinkFault) seen.sink_before.faults mid.faults
-      → (status : Status) → GetsLine mid seen.sink_after (fault_line status) → GetsFront (run_of seen d e) text status
+      → (status : Status) → GetsLine mid seen.sink_after (fault_line status) → GetsFront (run_of M seen d e) text status
   front_line stop text other puts counts status line =
       let front = puts.tried in
       (front.0, front.1, record { between = mid; whole = front.2; same = counts.no_fault (other_err stop stops.SinkFault other); line = line })
@@ -66,7 +66,7 @@ module _ (d m e : DiskModel) (old new : StoreHeld) (count : ℕ) (seen : Seen) (
       by_told None is = refl
       by_told (Some b) is = let found = at_value d.told _ b is opens.file in absurd (rightly.sound found.0 [] found.4 found.2)
 
-  maps_with : (result : Result (Unit {0}) MapStop) (text : List ℕ) → PutMap result d m e old new count seen mid → PutsText text result seen.sink_before.written mid.written → MapsWith (map_status result) (run_of seen d e) old.state.meta text
+  maps_with : (result : Result (Unit {0}) MapStop) (text : List ℕ) → PutMap result d m e old new count seen mid → PutsText text result seen.sink_before.written mid.written → MapsWith (map_status result) (run_of M seen d e) old.state.meta text
   maps_with (Ok done) text facts puts =
       subst (λ (k : SinkModel). Appends seen.sink_before.written k.written text × (k.faults ≡ seen.sink_before.faults)) (sym (facts.silent_done refl)) (puts.done, facts.counts.no_fault (ok_not_err done stops.SinkFault))
   maps_with (Err stops.SinkFault) text facts puts =
@@ -99,12 +99,12 @@ module _ (d m e : DiskModel) (old new : StoreHeld) (count : ℕ) (seen : Seen) (
             facts.map found.0 [] found.4 found.2,
           )
 
-  pub map_ended : (result : Result (Unit {0}) MapStop) (status : Status) → status ≡ map_status result → PutMap result d m e old new count seen mid → MapEnds (run_of seen d e) status
+  pub map_ended : (result : Result (Unit {0}) MapStop) (status : Status) → status ≡ map_status result → PutMap result d m e old new count seen mid → MapEnds (run_of M seen d e) status
   map_ended result status is facts =
       let text = text_of result facts in
       let only = facts.looks.looks.only in
       let further = leaves_further d m e (λ never. never) only facts.leaves in
-      subst (λ (s : Status). MapEnds (run_of seen d e) s) (sym is) (inr (
+      subst (λ (s : Status). MapEnds (run_of M seen d e) s) (sym is) (inr (
         old.state,
         text.0,
         (

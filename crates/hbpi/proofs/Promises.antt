@@ -1,20 +1,17 @@
 -- The promise of `drive`, `run` and `work`, from how a run ends.
-use Rattle.std.proofs.Common.{◌≡◌, inl, inr, ℕ, ◌+◌, ◌≤◌, List, [], ◌∷◌, All, Some, None, refl, sym, ap, subst, ◌∙◌, arith}
+use Rattle.std.proofs.Common.{◌≡◌, inl, inr, ℕ, ◌+◌, ◌≤◌, List, [], All, Some, None, refl, sym, ap, subst, ◌∙◌, arith}
 use Rattle.std.proofs.lemmas.List.Elements.{All-nil, All-weaker}
 use Rattle.std.specs.List.{Contains}
-use Rattle.hb_steps.specs.KeepingLaws.{BegunKeepsAll}
 use Rattle.hb_steps.specs.KeptOrder.{StandsSomewhere}
 use Rattle.hb_steps.specs.KeptSequence.{IsInSequence}
-use Rattle.hb_steps.specs.Laws.{HasOnePage, PointsHaveOnePage}
-use Rattle.hb_steps.specs.Machines.{Files, Machine, settled_count}
+use Rattle.hb_steps.specs.Laws.{HasOnePage}
+use Rattle.hb_steps.specs.Machines.{Machine, settled_count}
 use Rattle.hb_steps.specs.MomentLaws.{IsPrefixImage}
 use Rattle.hb_core.specs.Runs.{HoldsSince}
-use Rattle.hb_steps.specs.Steps.{StepsInSequence}
-use Rattle.hb_steps.specs.SteppingLaws.{IsBegunOver, StepsGoOn}
+use Rattle.hb_steps.specs.SteppingLaws.{IsBegunOver}
 use Rattle.hb_disk.proofs.Facts.RunLaws.{Leaves-weaker}
 use Rattle.hb_disk.specs.Calls.{Leaves}
 use Rattle.hb_disk.specs.Model.{DiskModel}
-use Rattle.hb_space.specs.Actors.{IsActor}
 use Rattle.hb_layout.specs.declared.meta.Meta.{Meta}
 use Rattle.hb_lemmas.proofs.Options.{at_value, has_value}
 use Rattle.hb_ops.specs.Files.{FileState, contents_of}
@@ -22,9 +19,8 @@ use Rattle.hb_ops.specs.Sound.{IsSound}
 use Rattle.hb_restart.specs.declared.faults.OpenFault.{OpenFault}
 use Rattle.hb_set.specs.declared.scripts.Answered.{Answered}
 use Rattle.hb_set.specs.declared.scripts.Line.{Line}
-use Rattle.hb_sound.specs.Laws.{NoPointIsHeldTwice, RootHasWalks}
 use Rattle.hb_sound.specs.PointWalks.{IsPointOf}
-use Rattle.hb_store.specs.Opening.{IsEven, OpensTo, OpensToOne}
+use Rattle.hb_store.specs.Opening.{IsEven, OpensTo}
 use Rattle.hbpi.proofs.EndLaws.{no_done, of_closed}
 use Rattle.hbpi.proofs.Reopened.{no_line_yet, pages_of}
 use Rattle.hbpi.specs.Codes.{status_of}
@@ -34,17 +30,10 @@ use Rattle.hbpi.specs.Drives.{LeavesLate, LeavesPrefixes}
 use Rattle.hbpi.specs.Promises.{AreOfScript, KeepsPromise}
 use Rattle.hbpi.specs.Schedules.{CameFrom, CameNot}
 use Rattle.hbpi.specs.SeenRuns.{Run}
+use Rattle.hbpi.specs.Starts.{StartLaws}
 use Rattle.hbpi.specs.declared.origins.Origin.{Origin}
 use Rattle.hbpi.specs.declared.statuses.Status.{Status}
 use Rattle.hbpi.specs.declared.statuses.Status.TheVariants.{Done}
-
--- The laws that it takes: bytes open to one file at most; what steps keep from a beginning on; and each point has one page.
-pub record PromiseLaws : Type 0 where
-  pub one : OpensToOne
-  pub begun : BegunKeepsAll
-  pub further : StepsGoOn
-  pub walks : RootHasWalks
-  pub alone : NoPointIsHeldTwice
 
 pub not_done : (fault : OpenFault) → status_of fault ≡ Done → ⊥
 not_done fault = of_closed fault (λ x. x ≡ Done → ⊥) (λ needed found is. cc (is)) (λ damage is. cc (is)) (λ is. cc (is)) (λ is. cc (is))
@@ -68,7 +57,7 @@ nothing_done origin s run status sound pages none_answered none_ordered leaves l
     }
 
 -- where the steps were taken, from this file on
-module _ (laws : PromiseLaws) (b : List ℕ) (by : Manner) (run : Run) (status : Status) (after : Machine) (told : run.before.told ≡ Some b) (drove : Drove by run after) (going : status ≡ Done → after.stop ≡ None) where
+module _ (laws : StartLaws) (b : List ℕ) (by : Manner) (run : Run) (status : Status) (after : Machine) (told : run.before.told ≡ Some b) (drove : Drove by run after) (going : status ≡ Done → after.stop ≡ None) where
   of_script : (s : FileState) → IsBegunOver drove.takes.before s → All (IsInSequence after) after.order → AreOfScript by.origin s.meta.k run.seen after.order
   of_script s over placed =
       let takes = drove.takes in
@@ -96,7 +85,7 @@ module _ (laws : PromiseLaws) (b : List ℕ) (by : Manner) (run : Run) (status :
         held = prefixes.since;
         crashes = prefixes.even;
         late = λ later. prefixes.late;
-        even = λ is. let even = prefixes.settled (going is) in (even.0, settled_count after, even.1, even.2, even.3);
+        even = λ is. let even = prefixes.settled (going is) in (prefixes.shows.files.durable, settled_count after, even.0, even.1, even.2);
       }
 
   drove_promise : (s : FileState) → OpensTo b s → KeepsPromise by.origin s run status
@@ -106,14 +95,14 @@ module _ (laws : PromiseLaws) (b : List ℕ) (by : Manner) (run : Run) (status :
       subst (λ (f : FileState). KeepsPromise by.origin f run status) same (ran_promise here.0 here.3 here.4)
 
 -- over a file that was opened each image since the first sync opens to it
-opened_late : (k : ℕ) (d e : DiskModel) (b : List ℕ) (s : FileState) → IsOpened k d e → d.told ≡ Some b → OpensTo b s → LeavesLate d e (λ c. OpensTo c s)
+pub opened_late : (k : ℕ) (d e : DiskModel) (b : List ℕ) (s : FileState) → IsOpened k d e → d.told ≡ Some b → OpensTo b s → LeavesLate d e (λ c. OpensTo c s)
 opened_late k d e b s opened told opens = record { since = d.clock + 1; soon = omega arith; each = at_value d.told _ b told opened.through.late s opens }
 
-shut_late : (d e : DiskModel) (b : List ℕ) (s : FileState) → d.told ≡ Some b → OpensTo b s
+pub shut_late : (d e : DiskModel) (b : List ℕ) (s : FileState) → d.told ≡ Some b → OpensTo b s
     → ((b : List ℕ) → d.told ≡ Some b → (s : FileState) → OpensTo b s → d.clock + 2 ≤ e.clock → (c : List ℕ) → e.ImageSince (d.clock + 1) c → OpensTo c s) → d.clock + 2 ≤ e.clock → LeavesLate d e (λ c. OpensTo c s)
 shut_late d e b s told opens late later = record { since = d.clock + 1; soon = omega arith; each = late b told s opens later }
 
-pub keeps_promise : (laws : PromiseLaws) (by : Manner) (run : Run) (status : Status) (b : List ℕ) (s : FileState) → run.before.told ≡ Some b → OpensTo b s → IsSound s → StepsEnd by run status → KeepsPromise by.origin s run status
+pub keeps_promise : (laws : StartLaws) (by : Manner) (run : Run) (status : Status) (b : List ℕ) (s : FileState) → run.before.told ≡ Some b → OpensTo b s → IsSound s → StepsEnd by run status → KeepsPromise by.origin s run status
 keeps_promise laws by run status b s told opens sound ends = elim ends [
   | inl shut ↦
       let out = shut.2 in
@@ -126,12 +115,3 @@ keeps_promise laws by run status b s told opens sound ends = elim ends [
         (λ is. (subst (λ (x : Status). RanEnds by x run ran.0) is ran.2).4) s opens
   ]
 ]
-
--- In the file after each step on the way, and in those that a crash may leave of it, each point has one page.
-pub files_have_one_page : (laws : PromiseLaws) (pages : PointsHaveOnePage) (by : Manner) (run : Run) (after : Machine) (b : List ℕ) → run.before.told ≡ Some b → (drove : Drove by run after) (front : List ℕ) (here : Machine) → All IsActor front → StepsInSequence front drove.takes.before here
-    → (files : Files) × (here.files ≡ Some files) × ((s : FileState) (p : List ℕ) → Contains (files.durable ∷ files.later) s → IsPointOf s p → HasOnePage s p)
-files_have_one_page laws pages by run after b told drove front here may reached =
-    let takes = drove.takes in
-    let opened = at_value run.before.told _ b told takes.told in
-    let kept = laws.begun opened.0 front takes.before here opened.3 may reached in
-    (kept.0, kept.1.keeps.told, λ s p among point. pages here kept.0 s p kept.1.keeps.sound_file among point)

@@ -19,6 +19,7 @@ use Rattle.hb_sound.specs.PointWalks.{IsPointOf}
 use Rattle.hb_store.specs.Opening.{IsEven, OpensTo, OpensToOne}
 use Rattle.hb_store.specs.declared.stops.StopWhy.{StopWhy}
 use Rattle.hbpi.proofs.Opened.{IsOpening, from_before, late_before, silent_behind, tells_behind}
+use Rattle.hbpi.proofs.StepsTaken.{TakesFrom}
 use Rattle.hbpi.specs.Drives.{LeavesPrefixes, TakesSteps}
 
 -- in a sound file each point has one page
@@ -37,7 +38,7 @@ prefixes_before s d m e answered after opening tells late sound pages even run =
       since = run.since;
       even = λ was. Leaves-then d m e Q (Leaves-weaker d m (λ c. OpensTo c s) Q (λ c opens. no_line_yet s after.order c sound pages opens) (opening.even s was)) (run.even even);
       late = late_before d m e (λ c. OpensTo c s) Q opening tells late (λ c opens. no_line_yet s after.order c sound pages opens) (run.even even);
-      clock = run.clock;
+      shows = run.shows;
       settled = run.settled;
     }
 
@@ -51,27 +52,27 @@ counts_before d m e answered before after opening counts = record {
 }
 
 pub takes_before : (d m e : DiskModel) (k : ℕ) (lines : List Line) (steps : List ℕ) (answered : List Answered) (order : List ℕ) (after : Machine) → RootHasWalks → NoPointIsHeldTwice → OpensToOne → IsOpening d m
-    → TakesSteps m e k lines steps answered order after → TakesSteps d e k lines steps answered order after
-takes_before d m e k lines steps answered order after walks alone one opening takes = record {
-  before = takes.before;
-  begun = takes.begun;
-  opened = takes.opened;
-  lines_are = takes.lines_are;
-  attributes = takes.attributes;
-  actors = takes.actors;
-  reached = takes.reached;
-  came = record { alike = takes.came.alike; same = λ tells. takes.came.same (tells_behind d m opening tells) };
-  order_is = takes.order_is;
-  faults = counts_before d m e answered None after.stop opening takes.faults;
-  told = from_before d m (λ s. IsBegunOver takes.before s × LeavesPrefixes s m e answered after × (m.clock ≤ takes.before.clock)) _ _ one opening
-      (λ b f. (f.0, f.1, (f.3, f.4, f.5)))
-      (λ b s is opens sound even here. (
-        s,
-        opens,
-        sound,
-        here.0,
-        prefixes_before s d m e answered after opening (has_value d.told b is) (opening.late b is s opens) sound (pages_of walks alone s sound) even here.1,
-        (let time = opening.time (has_value d.told b is) in omega (arith, time, here.2)),
-      )) takes.told;
-  silent = λ none. takes.silent (silent_behind d m opening none);
-}
+    → (takes : TakesSteps m e k lines steps answered order after) → TakesFrom takes.before d e k lines steps answered order after
+takes_before d m e k lines steps answered order after walks alone one opening takes =
+    let before : TakesSteps d e k lines steps answered order after = record {
+      before = takes.before;
+      begun = takes.begun;
+      lines_are = takes.lines_are;
+      attributes = takes.attributes;
+      actors = takes.actors;
+      reached = takes.reached;
+      came = record { alike = takes.came.alike; same = λ tells. takes.came.same (tells_behind d m opening tells) };
+      order_is = takes.order_is;
+      faults = counts_before d m e answered None after.stop opening takes.faults;
+      told = from_before d m (λ s. IsBegunOver takes.before s × LeavesPrefixes s m e answered after) _ _ one opening
+          (λ b f. (f.0, f.1, (f.3, f.4)))
+          (λ b s is opens sound even here. (
+            s,
+            opens,
+            sound,
+            here.0,
+            prefixes_before s d m e answered after opening (has_value d.told b is) (opening.late b is s opens) sound (pages_of walks alone s sound) even here.1,
+          )) takes.told;
+      silent = λ none. takes.silent (silent_behind d m opening none);
+    } in
+    (before, refl)

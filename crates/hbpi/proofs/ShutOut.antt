@@ -15,11 +15,11 @@ use Rattle.hbpi.specs.declared.statuses.Status.{Status}
 
 pub shut_out : {X : Type 0} (M : X → DiskModel) (old found last : X) (seen : Seen) (fault : OpenFault) (asked status : Status) → HandsBack asked status seen.sink_before seen.sink_after seen.answered seen.order found last → asked ≡ status_of fault → IsUnread seen
     → IsRefusal (M old) fault → (IsUnwritten fault → OnlyReads (M old) (M found)) → LeavesOpening (fault ≡ DiskFault) (M old) (M found)
-    → (fault : OpenFault) × (status ≡ status_of fault) × IsShutOut (run_of seen (M old) (M last)) fault
+    → (fault : OpenFault) × (status ≡ status_of fault) × IsShutOut (run_of M seen (M old) (M last)) fault
 shut_out {X = X} M old found last seen fault asked status back of unread why unwritten leaves = (
   fault,
   back.status_is ∙ of,
-  subst (λ (x : X). IsShutOut (run_of seen (M old) (M x)) fault) (sym back.disk_is) (record {
+  subst (λ (x : X). IsShutOut (run_of M seen (M old) (M x)) fault) (sym back.disk_is) (record {
     refused = record {
       line = subst (λ (x : Status). GetsLine seen.sink_before seen.sink_after (fault_line x)) of back.line;
       none_answered = back.none_answered;

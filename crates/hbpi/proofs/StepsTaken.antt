@@ -1,5 +1,5 @@
 -- What a run of a core over a store that was just opened comes to, as the program says it.
-use Rattle.std.proofs.Common.{◌≡◌, ◌≢◌, ◌⊎◌, inl, inr, Bool, ℕ, ◌≤◌, List, [], ◌++◌, Option, None, IsSome, refl, sym, ap, subst, ◌∙◌, arith}
+use Rattle.std.proofs.Common.{◌≡◌, ◌≢◌, ◌⊎◌, inl, inr, Bool, ℕ, ◌≤◌, List, [], ◌++◌, Option, None, IsSome, refl, sym, ap, subst, ◌∙◌}
 use Rattle.hb_steps.specs.KeepingLaws.{BegunKeepsAll, HasKeptAll}
 use Rattle.hb_steps.specs.Machines.{Files, Machine, settled_count}
 use Rattle.hb_steps.specs.MomentLaws.{IsPrefixImage}
@@ -23,28 +23,32 @@ use Rattle.hb_set.specs.Machine.{RecordSet}
 use Rattle.hb_set.specs.Order.{result_of}
 use Rattle.hb_set.specs.declared.scripts.Answered.{Answered}
 use Rattle.hb_set.specs.declared.scripts.Line.{Line}
-use Rattle.hb_store.specs.Keeps.{StoreKeeps}
 use Rattle.hb_store.specs.Opening.{IsEven}
 use Rattle.hb_store.specs.States.{IsNew, StoreState}
 use Rattle.hb_store.specs.declared.stops.StopWhy.{StopWhy}
 use Rattle.hb_store.specs.declared.stops.StopWhy.TheVariants as stops
 use Rattle.std.specs.Prelude.{take}
 use Rattle.hbpi.proofs.Begins.{IsBegunHere}
-use Rattle.hbpi.proofs.Opened.{even_store, since_start}
+use Rattle.hb_restart.specs.Leaving.{LeavesOpening, OpensStore, RunsThrough}
+use Rattle.hbpi.proofs.Opened.{IsOpening, even_store, since_start, tells_behind}
 use Rattle.hbpi.specs.Codes.{status_after}
-use Rattle.hbpi.specs.Driven.{by_text}
+use Rattle.hbpi.specs.Driven.{BeginsOpened, by_text}
 use Rattle.hbpi.specs.StepEnds.{RanEnds}
 use Rattle.hbpi.specs.Drives.{LeavesPrefixes, TakesSteps}
 use Rattle.hbpi.specs.Outcome.{GetsLine, fault_line}
-use Rattle.hbpi.specs.SeenRuns.{Run}
+use Rattle.hbpi.specs.SeenRuns.{Run, Seen, run_of}
 
 -- where nothing has stopped the machine, each image opens to the file that is durable
-settled_even : (e : DiskModel) (n : RecordSet) (old m : Machine) (files : Files) → HasKeptAll n old m files → ShowsFiles e m → m.stop ≡ None
-    → (t : FileState) × IsEven e t × IsSound t × (contents_of t ≡ result_of n (take (settled_count m) m.order))
+abbrev IsSettledFile : DiskModel → RecordSet → Machine → FileState → Type 0
+IsSettledFile e n m s = IsEven e s × IsSound s × (contents_of s ≡ result_of n (take (settled_count m) m.order))
+
+settled_even : (e : DiskModel) (n : RecordSet) (old m : Machine) (files : Files) → HasKeptAll n old m files → (shown : ShowsFiles e m) → m.stop ≡ None → IsSettledFile e n m shown.files.durable
 settled_even e n old m files kept shown going =
-    let same : shown.files ≡ files = cc (shown.told, kept.keeps.told) in
-    let store : StoreKeeps e m.store files.durable files.later = subst (λ (f : Files). StoreKeeps e m.store f.durable f.later) same shown.kept in
-    (files.durable, even_store e m.store files.durable files.later store (kept.keeps.kept.runs going), kept.keeps.sound_file.durable, kept.prefixes.durable.contents)
+    let same : shown.files ≡ files = cc (shown.told, kept.keeps.told) in (
+      even_store e m.store shown.files.durable shown.files.later shown.kept (kept.keeps.kept.runs going),
+      subst (λ (f : Files). IsSound f.durable) (sym same) kept.keeps.sound_file.durable,
+      subst (λ (f : Files). contents_of f.durable ≡ result_of n (take (settled_count m) m.order)) (sym same) kept.prefixes.durable.contents,
+    )
 
 -- what crashes leave of a run from a beginning over a file on
 leaves_prefixes : (d e : DiskModel) (m : Machine) (steps : List ℕ) (answered : List Answered) (c : RunningCore) (s : FileState) → BeginningKeepsAll → BegunKeepsAll → IsSome d.told → IsBegunOver m s
@@ -57,19 +61,21 @@ leaves_prefixes d e m steps answered c s keeps all tells over run =
       since = crashes.since;
       even = λ was. crashes.each;
       late = since_start d e (IsPrefixImage (contents_of s) run.new.order 0) crashes.each;
-      clock = shown.clock;
+      shows = shown;
       settled = λ going. settled_even e (contents_of s) m run.new kept.0 kept.1 shown going;
     }
 
+-- such steps from this machine on
+abbrev pub TakesFrom : Machine → DiskModel → DiskModel → ℕ → List Line → List ℕ → List Answered → List ℕ → Machine → Type 0
+TakesFrom m d e k lines actors answered order after = (takes : TakesSteps d e k lines actors answered order after) × (takes.before ≡ m)
+
 pub takes_steps : (d e : DiskModel) (lines : List Line) (steps actors : List ℕ) (store : StoreState) (c : RunningCore) (answered : List Answered) (m : Machine) → BeginningKeepsAll → BegunKeepsAll → IsDisk d → IsNew store.turn store.meta store
-    → IsBegunHere d lines steps store m → (run : HasRun d m actors answered e c) → TakesSteps d e store.meta.k lines actors answered c.order run.new
+    → IsBegunHere d lines steps store m → (run : HasRun d m actors answered e c) → TakesFrom m d e store.meta.k lines actors answered c.order run.new
 takes_steps d e lines steps actors store c answered m keeps all disk new here run =
-    let starts : IsSome d.told → d.clock ≤ m.clock = λ tells. let clock = (here.may.shows.tells tells).clock in omega (arith, clock) in
     let came : run.new.answered ≡ run.came = run.answered ∙ ap (λ (a : List Answered). a ++ run.came) here.begun.unanswered in
-    record {
+    let takes : TakesSteps d e store.meta.k lines actors answered c.order run.new = record {
       before = m;
       begun = here.begun;
-      opened = subst (λ (st : StoreState). IsNew st.turn st.meta st) (sym here.may.shows.store) new;
       lines_are = here.may.shows.lines;
       attributes = ap (λ (st : StoreState). st.meta.k) here.may.shows.store;
       actors = run.may;
@@ -80,9 +86,21 @@ takes_steps d e lines steps actors store c answered m keeps all disk new here ru
       told = if_value d.told _ (λ b is.
           let from = at_value d.told _ b is here.told in
           let even = even_store d store from.0 [] from.2 new.running in
-          (from.0, even.images b (disk.as_read b is), from.1.sound, from.1, leaves_prefixes d e m actors answered c from.0 keeps all (has_value d.told b is) from.1 run, starts (has_value d.told b is)));
+          (from.0, even.images b (disk.as_read b is), from.1.sound, from.1, leaves_prefixes d e m actors answered c from.0 keeps all (has_value d.told b is) from.1 run));
       silent = λ none. (here.may.shows.silent none, run.in_file.silent none);
-    }
+    } in
+    (takes, refl)
+
+-- the machine that has taken no step stands over the disk as the opening left it
+pub begins_opened : {X : Type 0} (M : X → DiskModel) (seen : Seen) (d : DiskModel) (first : X) (e : DiskModel) (store : StoreState) (count : ℕ) (lines : List Line) (steps : List ℕ) (m : Machine) → OpensStore d (M first) store count → RunsThrough store.meta.high d (M first)
+    → LeavesOpening ⊥ d (M first) → IsOpening d (M first) → IsBegunHere (M first) lines steps store m → Becomes (ChangesFile m.store) (M first) e → BeginsOpened (run_of M seen d e) m
+begins_opened M seen d first e store count lines steps m opens through leaves opening here in_file = record {
+  disk = first;
+  opened = record { store = store; count = count; attributes = ap (λ (st : StoreState). st.meta.k) (sym here.may.shows.store); opens = opens; through = through; leaves = leaves };
+  store = here.may.shows.store;
+  clock = λ tells. (here.may.shows.tells (tells_behind d (M first) opening tells)).clock;
+  in_file = in_file;
+}
 
 -- the steps of a store that was just opened leave alone what lies behind its file
 pub run_beyond : (d e : DiskModel) (st : StoreState) (m : Machine) → m.store ≡ st → Becomes (ChangesFile m.store) d e → KeepsBeyond (file_size st.meta) d e

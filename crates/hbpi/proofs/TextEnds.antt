@@ -29,7 +29,7 @@ pub text_core : {X Y : Type 0} (M : X → DiskModel) (S : Y → SinkModel) (step
     → RanText M S goes first sink core left back → (d : DiskModel) (before after : SourceModel)
     → RanCore M (by_text step_lines goes) first core left back.disk d (seen_by before after (S sink) (S back.sink) back.answered back.order) back.status
 text_core {Y = Y} M S step_lines goes first sink core left back facts d before after =
-    let whole : Run = run_of (seen_by before after (S sink) (S back.sink) back.answered back.order) d (M back.disk) in
+    let whole : Run = run_of M (seen_by before after (S sink) (S back.sink) back.answered back.order) d (M back.disk) in
     let ended = facts.ended in
     record {
       unbegun = λ none. let still = facts.unbegun none in (still.0, still.1, still.3, ended.status_is ∙ ap status_after none, subst (λ (y : Y). GetsLine (S y) (S back.sink) (fault_line back.status)) still.2 ended.line);

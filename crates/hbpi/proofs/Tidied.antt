@@ -21,15 +21,18 @@ use Rattle.hb_store.specs.Keeps.{StoreKeeps}
 use Rattle.hb_store.specs.Opening.{OpensTo}
 use Rattle.hb_store.specs.States.{IsNew, StoreState}
 use Rattle.hb_store.specs.declared.stops.StopWhy.{StopWhy}
+use Rattle.hb_tidy.specs.Counted.{GrewBy}
 use Rattle.hb_tidy.specs.Tidying.{HasTidied, KeepsSet}
+use Rattle.hb_tidy.specs.Working.{Event}
 use Rattle.hb_tidy.specs.declared.stops.TidyStop.{TidyStop}
 use Rattle.hb_tidy.specs.declared.stops.TidyStop.TheVariants as tidies
 use Rattle.hbpi.proofs.Begins.{IsBegunHere}
 use Rattle.hbpi.proofs.Opened.{IsOpening, even_store, from_before, late_before, since_start, tells_behind}
 use Rattle.hbpi.proofs.Reopened.{counts_before, no_line_yet, pages_of}
+use Rattle.hbpi.specs.Driven.{BeginsOpened}
 use Rattle.hbpi.specs.SeenRuns.{IsAlone, Seen, run_of}
 use Rattle.hbpi.specs.Starts.{StartLaws}
-use Rattle.hbpi.specs.Tidied.{GrewBy, HasContents, HasSameRecords, IsTidied, LeavesTidied}
+use Rattle.hbpi.specs.Tidied.{HasContents, HasSameRecords, IsTidied, LeavesTidied}
 use Rattle.hbpi.specs.TidyRuns.{EndsForced, FilesTidied, TidiesFile, TidyWhy}
 use Rattle.hb_steps.proofs.Facts.LaterPages.{last_sound}
 
@@ -48,23 +51,26 @@ module _ (s : FileState) (d e : DiskModel) (m new : Machine) (first : Files) (ke
     contents = same_contents;
   }
 
-  is_tidied : (result : Result TidyCounts TidyStop) → ShowsFiles e new → TidyWhy d e m new result → FilesTidied m.store.meta result files → IsTidied s e result
-  is_tidied (Ok counts) shown why (none, tidy, grew) =
-      let same : shown.files ≡ files = cc (shown.told, keeps.keeps.told) in
-      let store : StoreKeeps e new.store files.durable files.later = subst (λ (f : Files). StoreKeeps e new.store f.durable f.later) same shown.kept in
-      let alone : current_file files ≡ files.durable = ap (last_of files.durable) none in (
-        files.durable,
+  -- the files of the disk are those of the machine
+  are_same : (shown : ShowsFiles e new) → files ≡ shown.files
+  are_same shown = cc (shown.told, keeps.keeps.told)
+
+  is_tidied : (events : List Event) (result : Result TidyCounts TidyStop) → (shown : ShowsFiles e new) → TidyWhy d e events new result → FilesTidied m.store.meta result files → IsTidied s e shown.files result
+  is_tidied events (Ok counts) shown why (none, tidy, grew) =
+      let store : StoreKeeps e new.store files.durable files.later = subst (λ (f : Files). StoreKeeps e new.store f.durable f.later) (sym (are_same shown)) shown.kept in
+      let alone : current_file files ≡ files.durable = ap (last_of files.durable) none in
+      subst (λ (f : Files). IsTidied s e f (Ok counts)) (are_same shown) (
         subst (HasSameRecords s) alone current,
-        even_store e new.store files.durable files.later store (keeps.keeps.kept.runs why),
+        even_store e new.store files.durable files.later store (keeps.keeps.kept.runs why.0),
         tidy,
         subst (λ (meta : Meta). GrewBy meta files.durable.meta counts) opened grew,
       )
-  is_tidied (Err tidies.Full) shown why wants = (current_file files, current, wants)
-  is_tidied (Err tidies.ReadFault) shown why wants = tt
-  is_tidied (Err tidies.WriteFault) shown why wants = tt
-  is_tidied (Err (tidies.Damaged page cause)) shown why wants = tt
-  is_tidied (Err tidies.Spent) shown why wants = tt
-  is_tidied (Err tidies.NoMemory) shown why wants = tt
+  is_tidied events (Err tidies.Full) shown why wants = subst (λ (f : Files). IsTidied s e f (Err tidies.Full)) (are_same shown) (current, wants)
+  is_tidied events (Err tidies.ReadFault) shown why wants = tt
+  is_tidied events (Err tidies.WriteFault) shown why wants = tt
+  is_tidied events (Err (tidies.Damaged page cause)) shown why wants = tt
+  is_tidied events (Err tidies.Spent) shown why wants = tt
+  is_tidied events (Err tidies.NoMemory) shown why wants = tt
 
 -- ---- behind an opening
 
@@ -74,7 +80,7 @@ module _ (laws : StartLaws) (d first last : DiskModel) (store : StoreState) (lin
   no_order = went.order ∙ here.begun.no_order
 
   -- what it leaves, seen from the opening
-  left_here : IfSome first.told (λ b. (s : FileState) × OpensTo b s × IsBegunOver m s × LeavesTidied s first last result)
+  left_here : IfSome first.told (λ b. (s : FileState) × OpensTo b s × IsBegunOver m s × LeavesTidied s first last went.new result)
   left_here = if_value first.told _ (λ b is.
       let from = at_value first.told _ b is here.told in
       let s = from.0 in
@@ -90,14 +96,15 @@ module _ (laws : StartLaws) (d first last : DiskModel) (store : StoreState) (lin
         record {
           even = λ was. crashes;
           late = since_start first last (HasContents s) crashes;
-          ends = is_tidied s first last m went.new (record { durable = s; later = [] }) keeps no_order (sym over.meta) result shown forced.why files;
+          shows = shown;
+          ends = is_tidied s first last m went.new (record { durable = s; later = [] }) keeps no_order (sym over.meta) forced.events result shown forced.why files;
         },
       ))
 
-  left_before : IfSome d.told (λ b. (s : FileState) × OpensTo b s × IsSound s × IsBegunOver m s × LeavesTidied s d last result)
-  left_before = from_before d first (λ s. IsBegunOver m s × LeavesTidied s first last result)
-      (λ b. (s : FileState) × OpensTo b s × IsBegunOver m s × LeavesTidied s first last result)
-      (λ b. (s : FileState) × OpensTo b s × IsSound s × IsBegunOver m s × LeavesTidied s d last result)
+  left_before : IfSome d.told (λ b. (s : FileState) × OpensTo b s × IsSound s × IsBegunOver m s × LeavesTidied s d last went.new result)
+  left_before = from_before d first (λ s. IsBegunOver m s × LeavesTidied s first last went.new result)
+      (λ b. (s : FileState) × OpensTo b s × IsBegunOver m s × LeavesTidied s first last went.new result)
+      (λ b. (s : FileState) × OpensTo b s × IsSound s × IsBegunOver m s × LeavesTidied s d last went.new result)
       laws.one opening
       (λ b f. (f.0, f.1, (f.2, f.3)))
       (λ b s is opens sound even here. (
@@ -108,12 +115,13 @@ module _ (laws : StartLaws) (d first last : DiskModel) (store : StoreState) (lin
         record {
           even = λ was. Leaves-then d first last (HasContents s) (Leaves-weaker d first (λ c. OpensTo c s) (HasContents s) (λ c image. no_line_yet s [] c sound (pages_of laws.walks laws.alone s sound) image) (opening.even s was)) (here.1.even even);
           late = late_before d first last (λ c. OpensTo c s) (HasContents s) opening (has_value d.told b is) (opening.late b is s opens) (λ c image. no_line_yet s [] c sound (pages_of laws.walks laws.alone s sound) image) (here.1.even even);
+          shows = here.1.shows;
           ends = here.1.ends;
         },
       )) left_here
 
   -- a count that rose behind the opening has risen since before it
-  why_before : (r : Result TidyCounts TidyStop) → TidyWhy first last m went.new r → TidyWhy d last m went.new r
+  why_before : (r : Result TidyCounts TidyStop) → TidyWhy first last forced.events went.new r → TidyWhy d last forced.events went.new r
   why_before (Ok counts) why = why
   why_before (Err tidies.Full) why = why
   why_before (Err tidies.ReadFault) why = subst (λ (n : ℕ). Rose n last.read_faults) opening.reads why
@@ -122,15 +130,17 @@ module _ (laws : StartLaws) (d first last : DiskModel) (store : StoreState) (lin
   why_before (Err tidies.Spent) why = why
   why_before (Err tidies.NoMemory) why = why
 
-  pub tidies_file : (seen : Seen) → lines ≡ [] → IsAlone seen → TidiesFile (run_of seen d last) went.new result
-  tidies_file seen none alone = record {
+  pub tidies_file : {X : Type 0} (M : X → DiskModel) (seen : Seen) → lines ≡ [] → IsAlone seen → BeginsOpened (run_of M seen d last) m → TidiesFile (run_of M seen d last) went.new result
+  tidies_file M seen none alone begins = record {
     before = m;
     begun = here.begun;
-    opened = subst (λ (st : StoreState). IsNew st.turn st.meta st) (sym here.may.shows.store) new;
+    begins = begins;
     no_line = here.may.shows.lines ∙ none;
     no_order = no_order;
     alone = alone;
     faults = counts_before d first last [] None went.new.stop opening (subst (λ (why : Option StopWhy). CountsFaults first last [] why went.new.stop) here.begun.runs went.faults);
+    events = forced.events;
+    works = forced.works;
     why = why_before result forced.why;
     told = left_before;
   }

@@ -17,7 +17,7 @@ use Rattle.hbpi.proofs.Begins.{IsBegunHere}
 use Rattle.hbpi.proofs.Beyond.{beyond_driven}
 use Rattle.hbpi.proofs.CoreEnds.{begins_here, may_core}
 use Rattle.hbpi.proofs.Opened.{IsOpening, is_opening}
-use Rattle.hbpi.proofs.StepsTaken.{run_beyond}
+use Rattle.hbpi.proofs.StepsTaken.{begins_opened, run_beyond}
 use Rattle.hbpi.proofs.Tidied.{tidies_file}
 use Rattle.hbpi.specs.SeenRuns.{IsAlone, Seen, run_of, seen_by}
 use Rattle.hbpi.specs.Starts.{IsStarted, StartLaws}
@@ -67,11 +67,12 @@ module _ {X : Type 0} (M : X → DiskModel) (first over last : X) (core ran : Ru
     none_ordered = no_order;
   }
 
-  pub tidied_ends : TidyEnds (run_of seen d (M last)) status
+  pub tidied_ends : TidyEnds (run_of M seen d (M last)) status
   tidied_ends =
-      let file : TidiesFile (run_of seen d (M over)) went.0.new result =
-      tidies_file laws d (M first) (M over) started.store started.made.lines started.made.steps ran result opening started.opens.is_new here.0 here.1 went.0 went.1 seen (started.made.came.0 ∙ no_lines started.store.meta.k) alone in
-      inr (inr (went.0.new, result, subst (λ (x : X). TidiesFile (run_of seen d (M x)) went.0.new result) (sym facts.disk_is) file, facts.said))
+      let file : TidiesFile (run_of M seen d (M over)) went.0.new result =
+      tidies_file laws d (M first) (M over) started.store started.made.lines started.made.steps ran result opening started.opens.is_new here.0 here.1 went.0 went.1 M seen (started.made.came.0 ∙ no_lines started.store.meta.k) alone
+      (begins_opened M seen d first (M over) started.store started.count started.made.lines started.made.steps here.0 started.opens started.through started.leaves opening here.1 went.0.in_file) in
+      inr (inr (went.0.new, result, subst (λ (x : X). TidiesFile (run_of M seen d (M x)) went.0.new result) (sym facts.disk_is) file, facts.said))
 
   -- what lies behind the file is as it was
   pub tidied_beyond : KeepsBeyondFile d (M last)

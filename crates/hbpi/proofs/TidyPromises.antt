@@ -1,20 +1,26 @@
 -- What `tidy` leaves of the file that the disk opens to.
-use Rattle.std.proofs.Common.{◌≡◌, ◌⊎◌, inl, inr, ℕ, List, Some, Result, Ok, Err, sym, subst}
+use Rattle.std.proofs.Common.{◌≡◌, ◌⊎◌, inl, inr, ℕ, ◌+◌, ◌≤◌, List, [], Some, Result, Ok, Err, sym, subst}
 use Rattle.hb_steps.specs.Machines.{Machine}
 use Rattle.hb_core.specs.declared.counts.TidyCounts.{TidyCounts}
 use Rattle.hb_lemmas.proofs.Options.{at_value, has_value}
+use Rattle.hb_disk.proofs.Facts.RunLaws.{Leaves-weaker}
+use Rattle.hb_disk.specs.Calls.{Leaves}
 use Rattle.hb_ops.specs.Files.{FileState}
+use Rattle.hb_ops.specs.Sound.{IsSound}
 use Rattle.hb_outside.specs.Streams.{Rose}
 use Rattle.hb_restart.specs.Refusals.{GoodIsNotRefused}
 use Rattle.hb_sound.specs.Laws.{FullyPostedWalksAreShort}
-use Rattle.hb_store.specs.Opening.{OpensTo, OpensToOne}
+use Rattle.hb_store.specs.Opening.{IsEven, OpensTo, OpensToOne}
 use Rattle.hb_tidy.specs.declared.stops.TidyStop.{TidyStop}
 use Rattle.hb_tidy.specs.declared.stops.TidyStop.TheVariants as tidies
-use Rattle.hbpi.proofs.Promises.{not_done}
+use Rattle.hbpi.proofs.Promises.{not_done, opened_late, shut_late}
+use Rattle.hbpi.proofs.Reopened.{no_line_yet, pages_of}
 use Rattle.hbpi.proofs.SaidWhole.{said_whole, shut_for_memory}
 use Rattle.hbpi.specs.Codes.{tidy_status}
+use Rattle.hbpi.specs.Drives.{LeavesLate}
 use Rattle.hbpi.specs.SeenRuns.{HasFailed, Run}
-use Rattle.hbpi.specs.Tidied.{IsTidied, IsTidiedWhole, KeepsTidied, tidied_text}
+use Rattle.hbpi.specs.Starts.{StartLaws}
+use Rattle.hbpi.specs.Tidied.{HasContents, IsTidied, IsTidiedWhole, KeepsTidied, LeavesTidied, tidied_text}
 use Rattle.hbpi.specs.TidyRuns.{SaysTidied, TidiesFile, TidyEnds}
 use Rattle.hbpi.specs.declared.statuses.Status.{Status}
 use Rattle.hbpi.specs.declared.statuses.Status.TheVariants.{Done, Full, NoMemory, Spent}
@@ -33,16 +39,17 @@ module _ (one : OpensToOne) (short : FullyPostedWalksAreShort) (s : FileState) (
   keeps_by after (Ok counts) file said =
       let here = at_value run.before.told _ b told file.told in
       let same : here.0 ≡ s = one b here.0 s here.1 opens in
-      let ends = subst (λ (f : FileState). IsTidied f run.after (Ok counts)) same here.4.ends in
+      let file = here.4.shows.files.durable in
+      let ends = subst (λ (f : FileState). IsTidied f run.after here.4.shows.files (Ok counts)) same here.4.ends in
       record {
         counts = counts;
         line = said.0;
-        file = ends.0;
-        same = ends.1;
-        even = ends.2;
-        tidy = ends.3;
-        grew = ends.4;
-        walks = λ lone p rest last point walk. short ends.0 p rest last ends.1.sound ends.3.settled lone point walk;
+        file = file;
+        same = ends.0;
+        even = ends.1;
+        tidy = ends.2;
+        grew = ends.3;
+        walks = λ lone p rest last point walk. short file p rest last ends.0.sound ends.2.settled lone point walk;
       }
   keeps_by after (Err stop) file said = absurd (stop_not_done stop (sym said.0))
 
@@ -78,3 +85,32 @@ tidy_whole good s run status ends b told opens sound calm sink = elim ends [
     | inr tidied ↦ whole_by s run status b told calm sink tidied.0 tidied.1 tidied.2 tidied.3
   ]
 ]
+
+-- ---- what crashes leave
+
+module _ (laws : StartLaws) (s : FileState) (run : Run) (status : Status) (b : List ℕ) (told : run.before.told ≡ Some b) (opens : OpensTo b s) (sound : IsSound s) where
+  has_contents : (c : List ℕ) → OpensTo c s → HasContents s c
+  has_contents c image = no_line_yet s [] c sound (pages_of laws.walks laws.alone s sound) image
+
+  left_tidied : (after : Machine) (result : Result TidyCounts TidyStop) → TidiesFile run after result → LeavesTidied s run.before run.after after result
+  left_tidied after result file =
+      let here = at_value run.before.told _ b told file.told in
+      subst (λ (f : FileState). LeavesTidied f run.before run.after after result) (laws.one b here.0 s here.1 opens) here.4
+
+  opened_even : (IsEven run.before s → Leaves run.before run.after (λ c. OpensTo c s)) → IsEven run.before s → Leaves run.before run.after (HasContents s)
+  opened_even leaves even = Leaves-weaker run.before run.after (λ c. OpensTo c s) (HasContents s) has_contents (leaves even)
+
+  opened_since : LeavesLate run.before run.after (λ c. OpensTo c s) → LeavesLate run.before run.after (HasContents s)
+  opened_since late = record { since = late.since; soon = late.soon; each = λ c left. has_contents c (late.each c left) }
+
+  pub tidy_crashes : TidyEnds run status → IsEven run.before s → Leaves run.before run.after (HasContents s)
+  tidy_crashes ends = elim ends [
+    | inl shut ↦ opened_even (shut.2.leaves.even s)
+    | inr opened ↦ elim opened [ inl away ↦ opened_even (away.opened.leaves.even s) | inr tidied ↦ (left_tidied tidied.0 tidied.1 tidied.2).even ]
+  ]
+
+  pub tidy_late : TidyEnds run status → run.before.clock + 2 ≤ run.after.clock → LeavesLate run.before run.after (HasContents s)
+  tidy_late ends later = elim ends [
+    | inl shut ↦ opened_since (shut_late run.before run.after b s told opens (λ c is. at_value run.before.told _ c is shut.2.leaves.late) later)
+    | inr opened ↦ elim opened [ inl away ↦ opened_since (opened_late away.k run.before run.after b s away.opened told opens) | inr tidied ↦ (left_tidied tidied.0 tidied.1 tidied.2).late ]
+  ]

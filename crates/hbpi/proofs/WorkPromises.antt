@@ -58,18 +58,19 @@ counts_kept one begun state count run b after told drove ends =
     let kept = begun s drove.actors takes.before after here.3 takes.actors takes.reached in
     let going : after.stop ≡ None = ends.4 in
     let left = (drove.goes going).answered in
+    let file = here.4.shows.files.durable in
     let even = here.4.settled going in
     let whole = take_all (settled_count after) after.order (all_settled (contents_of s) after kept.0 kept.1.keeps left) in
     let said = ends.1 in
     let has = at_value run.before.told _ b told said.1 in
     let same : has.0 ≡ s = one b has.0 s has.1 here.1 in
-    let records : said.0 ≡ finite.len (contents_of even.0) =
-    has.2 ∙ ap (λ (f : FileState). finite.len (result_of (contents_of f) after.order)) same ∙ ap (λ (o : List Entry). finite.len (result_of (contents_of s) o)) (sym whole) ∙ ap (λ (c : RecordSet). finite.len c) (sym even.3) in
-    let line : ends.0 ≡ counts_text run.seen.answered (finite.len (contents_of even.0)) = said.2 ∙ ap (counts_text run.seen.answered) records in
+    let records : said.0 ≡ finite.len (contents_of file) =
+    has.2 ∙ ap (λ (f : FileState). finite.len (result_of (contents_of f) after.order)) same ∙ ap (λ (o : List Entry). finite.len (result_of (contents_of s) o)) (sym whole) ∙ ap (λ (c : RecordSet). finite.len c) (sym even.2) in
+    let line : ends.0 ≡ counts_text run.seen.answered (finite.len (contents_of file)) = said.2 ∙ ap (counts_text run.seen.answered) records in
     record {
-      file = even.0;
-      even = even.1;
-      sound = even.2;
+      file = file;
+      even = even.0;
+      sound = even.1;
       line = subst (λ (t : List ℕ). Appends run.seen.sink_before.written run.seen.sink_after.written t) line ends.2;
     }
 

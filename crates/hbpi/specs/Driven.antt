@@ -1,10 +1,10 @@
 -- How a run of `drive`, `run` or `work` takes its steps, or comes to none.
-use Rattle.std.specs.Prelude.{◌≡◌, ℕ, Bool, true, false, List, [], None}
+use Rattle.std.specs.Prelude.{◌≡◌, ℕ, Bool, true, false, List, [], None, IsSome}
 use Rattle.hb_activity.specs.declared.jobs.JobKind.TheVariants.{Post, Merge}
 use Rattle.hb_steps.specs.Machines.{Machine}
-use Rattle.hb_core.specs.Runs.{left_count}
+use Rattle.hb_core.specs.Runs.{ChangesFile, left_count}
 use Rattle.hb_steps.specs.ProgressLaws.{jobs_of}
-use Rattle.hb_disk.specs.Calls.{OnlyReads}
+use Rattle.hb_disk.specs.Calls.{Becomes, OnlyReads}
 use Rattle.hb_disk.specs.Model.{DiskModel}
 use Rattle.hb_drive.specs.Driving.{run_text}
 use Rattle.hb_restart.specs.declared.faults.OpenFault.{OpenFault}
@@ -43,6 +43,15 @@ pub record IsOpened (k : ℕ) (old new : DiskModel) : Type 0 where
   pub opens : OpensStore old new store count
   pub through : RunsThrough store.meta.high old new
   pub leaves : LeavesOpening ⊥ old new
+
+-- A machine begins over the disk as the opening left it: with the store that was opened and, where the disk tells, with the clock of that
+-- disk. From there on no byte behind the file became another one.
+pub record BeginsOpened (run : Run) (m : Machine) : Type 0 where
+  pub disk : run.Disk
+  pub opened : IsOpened m.store.meta.k run.before (run.model disk)
+  pub store : m.store ≡ opened.store
+  pub clock : IsSome run.before.told → m.clock ≡ (run.model disk).clock
+  pub in_file : Becomes (ChangesFile m.store) (run.model disk) run.after
 
 -- Nothing is left to do: each line has an answer, and no job of either kind waits or is in work.
 pub record HasNothingLeft (m : Machine) : Type 0 where

@@ -13,11 +13,13 @@ pub mod Schedules
 pub mod Counted
 pub mod Drives
 pub mod Driven
+pub mod OnTheWay
 pub mod StepEnds
 pub mod Starts
 pub mod Checked
 pub mod Mapped
 pub mod Tidied
 pub mod TidyRuns
-pub mod Runs
 pub mod Promises
+pub mod Promised
+pub mod Runs

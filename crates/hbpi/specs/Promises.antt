@@ -1,4 +1,4 @@
--- What follows of how a run of `drive`, `run` or `work` ends: the statements of lemmas.
+-- What is promised of a run of `drive`, `run` or `work` beside how it ends.
 use Rattle.std.specs.Prelude.{◌≡◌, ◌⊎◌, ℕ, ◌+◌, ◌≤◌, IsTrue, List, [], map, take, All, Option, Some, Result, Ok, Err}
 use Rattle.std.specs.FinMap as finite
 use Rattle.std.specs.List.{Contains}

@@ -1,7 +1,8 @@
 -- What `top` says of a run: one table of how it ends, by its words and its status, and what holds of every run.
-use Rattle.std.specs.Prelude.{◌≡◌, ◌≤◌, Option, Some, None, IsSome}
+use Rattle.std.specs.Prelude.{◌≡◌, ◌↔◌, ◌≤◌, Option, Some, None, IsSome}
 use Rattle.hb_disk.specs.Model.{DiskModel}
 use Rattle.hb_gen.specs.Spelling.{generated_text}
+use Rattle.hb_outside.specs.Calls.{SinkModel, SourceModel}
 use Rattle.hb_restart.specs.Beyond.{KeepsBeyond, KeepsBeyondFile}
 use Rattle.hb_restart.specs.Layouts.{first_fault, size_of}
 use Rattle.hb_restart.specs.NewFiles.{new_file}
@@ -9,16 +10,18 @@ use Rattle.hb_store.specs.Opening.{IsEven}
 use Rattle.hbpi.specs.Checked.{CheckEnds}
 use Rattle.hbpi.specs.Driven.{by_counting, by_schedule, by_threads}
 use Rattle.hbpi.specs.StepEnds.{StepsEnd}
-use Rattle.hbpi.specs.Ends.{DryEnds, GenEnds, LeavesDisk, UsageEnds}
-use Rattle.hbpi.specs.MadeEnds.{CreateEnds, HasMade}
+use Rattle.hbpi.specs.Ends.{DryEnds, GenEnds, IsComplete, LeavesDisk, NamesBadLine, RefusesBadText, UsageEnds}
+use Rattle.hbpi.specs.MadeEnds.{CreateEnds, HasMade, IsMadeWhole}
 use Rattle.hbpi.specs.Mapped.{MapEnds}
-use Rattle.hbpi.specs.SeenRuns.{Run, Seen, run_of}
+use Rattle.hbpi.specs.Promised.{KeepsForm}
+use Rattle.hbpi.specs.SeenRuns.{Run, Seen, run_of, seen_by}
 use Rattle.hbpi.specs.TidyRuns.{TidyEnds}
+use Rattle.hbpi.specs.declared.finished.Finished.{Finished}
 use Rattle.hbpi.specs.declared.forms.Form.{Form}
 use Rattle.hbpi.specs.declared.forms.Form.TheVariants.{Check, Create, Drive, Dry, Gen, Map, Tidy, Work}
 use Rattle.hbpi.specs.declared.forms.Form.TheVariants as forms
 use Rattle.hbpi.specs.declared.statuses.Status.{Status}
-use Rattle.hbpi.specs.declared.statuses.Status.TheVariants.{SourceFault}
+use Rattle.hbpi.specs.declared.statuses.Status.TheVariants.{SourceFault, Usage}
 
 -- The table: how a run of a form ends with a status.
 abbrev pub RunEnds : Option Form → Run → Status → Type 0
@@ -59,14 +62,27 @@ pub record CountsLater (run : Run) (status : Status) : Type 0 where
   pub reads : run.before.read_faults ≤ run.after.read_faults
   pub writes : run.before.write_faults ≤ run.after.write_faults
 
--- What is said of a run, whatever its form.
+-- What is said of a run, whatever its form: its row; what it leaves of the file and of the rest of the disk; the counts; that bad words are
+-- refused, and no others; of `dry`, that a good text is answered whole, and which line of a bad one is named; of `create`, that a good layout is
+-- made; and what is promised by its form.
 pub record IsRunOf (form : Option Form) (run : Run) (status : Status) : Type 0 where
   pub ends : RunEnds form run status
   pub file : LeavesFile form run status
   pub beyond : LeavesBeyond form run
   pub counts : CountsLater run status
+  pub usage : (status ≡ Usage) ↔ (form ≡ None)
+  pub complete : IsComplete form run.seen status
+  pub refuses : RefusesBadText form run.seen status
+  pub names : NamesBadLine form run.seen status
+  pub made : IsMadeWhole form run status
+  pub keeps : KeepsForm form run status
 
 -- All that is said of a run over a disk of some type. Where its form leaves the disk alone, the disk is given back as it was.
 pub record RunsForm {X : Type 0} (M : X → DiskModel) (form : Option Form) (seen : Seen) (old new : X) (status : Status) : Type 0 where
-  pub ends : IsRunOf form (run_of seen (M old) (M new)) status
+  pub ends : IsRunOf form (run_of M seen (M old) (M new)) status
   pub untouched : LeavesDisk form status → new ≡ old
+
+-- A run of a form that was given a source, a sink and a disk, and gave back this.
+abbrev pub RunsFromTo : {X Y : Type 0} → (X → DiskModel) → (Y → SinkModel) → Option Form → SourceModel → SourceModel → Y → X → Finished Y X → Type 0
+RunsFromTo disk_seen sink_seen form before after sink disk finished =
+    RunsForm disk_seen form (seen_by before after (sink_seen sink) (sink_seen finished.sink) finished.answered.items finished.order.items) disk finished.disk finished.status

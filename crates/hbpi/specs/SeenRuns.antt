@@ -26,14 +26,16 @@ seen_by source_before source_after sink_before sink_after answered order = recor
   order = order;
 }
 
--- and the disk before and after it: all that is seen of a run
+-- and the disk before and after it, among the disks of its type, each as it is seen: all that is seen of a run
 pub record Run : Type 1 where
   pub seen : Seen
+  pub Disk : Type 0
+  pub model : Disk → DiskModel
   pub before : DiskModel
   pub after : DiskModel
 
-abbrev pub run_of : Seen → DiskModel → DiskModel → Run
-run_of seen before after = record { seen = seen; before = before; after = after }
+abbrev pub run_of : {X : Type 0} → (X → DiskModel) → Seen → DiskModel → DiskModel → Run
+run_of {X = X} M seen before after = record { seen = seen; Disk = X; model = M; before = before; after = after }
 
 -- no command was done, and the fault line was written last
 pub record IsRefused (seen : Seen) (status : Status) : Type 0 where

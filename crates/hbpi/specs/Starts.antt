@@ -3,14 +3,18 @@ use Rattle.std.specs.Prelude.{◌≡◌, ◌⊎◌, ℕ, List, []}
 use Rattle.hb_core.specs.Relied.{MayTakeSteps}
 use Rattle.hb_steps.specs.KeepingLaws.{BegunKeepsAll}
 use Rattle.hb_core.specs.Showing.{RunningCore}
-use Rattle.hb_steps.specs.SteppingLaws.{BeginningKeepsAll}
+use Rattle.hb_steps.specs.CauseLaws.{FullByCause}
+use Rattle.hb_steps.specs.Laws.{AnswersAreTimed, PointsHaveOnePage}
+use Rattle.hb_steps.specs.MachineLaws.{MachineStaysKept}
+use Rattle.hb_steps.specs.SteppingLaws.{BeginningKeeps, BeginningKeepsAll, StepsGoOn}
 use Rattle.hb_core.specs.Taking.{begun_core}
 use Rattle.hb_disk.specs.Model.{DiskModel, IsDisk}
 use Rattle.hb_outside.specs.Calls.{SinkModel, SourceModel}
 use Rattle.hb_restart.specs.declared.faults.OpenFault.{OpenFault}
 use Rattle.hb_restart.specs.Leaving.{LeavesOpening, OpensStore, RunsThrough}
 use Rattle.hb_set.specs.declared.scripts.Line.{Line}
-use Rattle.hb_sound.specs.Laws.{NoPointIsHeldTwice, RecordsStandOnce, RootHasWalks}
+use Rattle.hb_restart.specs.Refusals.{GoodIsNotRefused, IsRefusedOnce}
+use Rattle.hb_sound.specs.Laws.{FullyPostedWalksAreShort, NoPointIsHeldTwice, RecordsStandOnce, RootHasWalks}
 use Rattle.hb_store.specs.Opening.{OpensToOne}
 use Rattle.hb_store.specs.States.{IsNew, IsStanding, StoreState}
 use Rattle.hbpi.specs.Codes.{status_of}
@@ -53,17 +57,27 @@ pub record HasStarted (origin : Origin) (before after : SourceModel) (d e : Disk
   pub may : MayTakeSteps e core
 
 -- Or not: whatever sink the fault line is put into, such a run ends so.
-abbrev pub IsNotStarted : Origin → SourceModel → SourceModel → DiskModel → DiskModel → Status → Type 0
-IsNotStarted origin before after d e status = (sink put : SinkModel) → GetsLine sink put (fault_line status) →
-    ((fault : OpenFault) × (status ≡ status_of fault) × IsShutOut (run_of (seen_by before after sink put [] []) d e) fault)
-    ⊎ IsTurnedAway origin (run_of (seen_by before after sink put [] []) d e) status
+abbrev pub IsNotStarted : {X : Type 0} → (X → DiskModel) → Origin → SourceModel → SourceModel → DiskModel → DiskModel → Status → Type 0
+IsNotStarted M origin before after d e status = (sink put : SinkModel) → GetsLine sink put (fault_line status) →
+    ((fault : OpenFault) × (status ≡ status_of fault) × IsShutOut (run_of M (seen_by before after sink put [] []) d e) fault)
+    ⊎ IsTurnedAway origin (run_of M (seen_by before after sink put [] []) d e) status
 
--- The laws that a run rests on: what a beginning keeps over a disk that tells, and any steps behind it; that bytes open to one file;
--- and that each point has one page in it, and each record stands in it once.
+-- The laws that a run rests on: what a beginning keeps, and any steps behind it; of one step, that it keeps what every machine does, when it
+-- answers, and that it answers `full` by its cause; that bytes open to one file, are refused in one way, and not where that file is sound; and
+-- that each point has one page in it, each record stands in it once, and a fully posted file has short walks.
 pub record StartLaws : Type 0 where
   pub beginning : BeginningKeepsAll
+  pub first : BeginningKeeps
   pub begun : BegunKeepsAll
+  pub further : StepsGoOn
+  pub kept : MachineStaysKept
+  pub timed : AnswersAreTimed
+  pub full : FullByCause
   pub one : OpensToOne
+  pub good : GoodIsNotRefused
+  pub once : IsRefusedOnce
   pub walks : RootHasWalks
   pub alone : NoPointIsHeldTwice
+  pub pages : PointsHaveOnePage
   pub counted : RecordsStandOnce
+  pub short : FullyPostedWalksAreShort

@@ -1,5 +1,5 @@
 -- How a run of `drive`, `run` or `work` ends.
-use Rattle.std.specs.Prelude.{◌≡◌, ◌⊎◌, ℕ, ◌≤◌, List, None, Some}
+use Rattle.std.specs.Prelude.{◌≡◌, IsSome, All, ◌⊎◌, ℕ, ◌≤◌, List, None, Some}
 use Rattle.hb_steps.specs.Machines.{Machine}
 use Rattle.hb_core.specs.Runs.{HasReadFault}
 use Rattle.hb_outside.specs.Calls.{SinkModel}
@@ -9,13 +9,15 @@ use Rattle.hb_set.specs.declared.scripts.Line.{Line}
 use Rattle.hb_store.specs.declared.stops.StopWhy.TheVariants as stops
 use Rattle.hb_store.specs.declared.stops.Why.{Why}
 use Rattle.hbpi.specs.Codes.{damage_of, status_of}
+use Rattle.hb_steps.specs.DamageLaws.{IsUndamaged}
 use Rattle.hbpi.specs.Drives.{TakesSteps}
+use Rattle.hbpi.specs.OnTheWay.{IsFullByCause, WaysHaveOnePage}
 use Rattle.hbpi.specs.Outcome.{GetsLine, fault_line}
 use Rattle.hbpi.specs.Schedules.{CameFrom}
 use Rattle.hbpi.specs.SeenRuns.{Run}
 use Rattle.hbpi.specs.declared.statuses.Status.{Status}
 use Rattle.hbpi.specs.declared.statuses.Status.TheVariants.{Done, Usage, BadText, SourceFault, SinkFault, DiskFault, Damaged, NoMemory, BadLayout, Small, Full, Spent}
-use Rattle.hbpi.specs.Driven.{IsShutOut, IsTurnedAway, Manner}
+use Rattle.hbpi.specs.Driven.{BeginsOpened, IsShutOut, IsTurnedAway, Manner}
 
 -- a script came, and steps were taken in this manner
 pub record Drove (by : Manner) (run : Run) (after : Machine) : Type 0 where
@@ -26,6 +28,12 @@ pub record Drove (by : Manner) (run : Run) (after : Machine) : Type 0 where
   pub source : run.seen.source_after.faults ≡ run.seen.source_before.faults
   pub actors : List ℕ
   pub takes : TakesSteps run.before run.after k lines actors run.seen.answered run.seen.order after
+  pub begins : BeginsOpened run takes.before
+  -- a line is `full` only by its cause
+  pub full : All (IsFullByCause takes.before actors) after.answered
+  -- over a disk that tells each point has one page on any way from there, and no page was met damaged
+  pub pages : IsSome run.before.told → WaysHaveOnePage takes.before
+  pub undamaged : IsSome run.before.told → IsUndamaged after
   pub goes : by.goes steps actors after
 
 -- the whole text of the run, and behind it the fault line of the status, or a front of that

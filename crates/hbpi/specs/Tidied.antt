@@ -1,7 +1,9 @@
 -- What a run of `tidy` leaves of its file, by its status.
 use Rattle.std.specs.Prelude.{◌≡◌, ◌⊎◌, ℕ, ◌+◌, List, [], ◌++◌, codes, length, Result, Ok, Err, Some}
 use Rattle.std.specs.Fmt.{decimal}
+use Rattle.hb_steps.specs.Machines.{Files, Machine, current_file}
 use Rattle.hb_steps.specs.MomentLaws.{IsPrefixImage}
+use Rattle.hb_core.specs.Showing.{ShowsFiles}
 use Rattle.hb_core.specs.declared.counts.TidyCounts.{TidyCounts}
 use Rattle.hb_disk.specs.Calls.{Leaves}
 use Rattle.hb_disk.specs.Model.{DiskModel}
@@ -12,6 +14,7 @@ use Rattle.hb_sound.specs.PointWalks.{IsPointOf, IsWholeWalk}
 use Rattle.hb_ops.specs.Sound.{IsSound}
 use Rattle.hb_outside.specs.Streams.{Appends, Rose}
 use Rattle.hb_store.specs.Opening.{IsEven, OpensTo}
+use Rattle.hb_tidy.specs.Counted.{GrewBy}
 use Rattle.hb_tidy.specs.Finding.{IsTidy, WantsPage}
 use Rattle.hb_tidy.specs.declared.stops.TidyStop.{TidyStop}
 use Rattle.hb_tidy.specs.declared.stops.TidyStop.TheVariants as tidies
@@ -34,28 +37,25 @@ tidied_text c = codes "tidy grown " ++ decimal c.grown ++ codes " posted " ++ de
 abbrev pub HasContents : FileState → List ℕ → Type 0
 HasContents s c = IsPrefixImage (contents_of s) [] 0 c
 
--- A file got higher by the growths that are counted, and has as many more pages in use as growths and splits made, less those that
--- merges freed.
-pub record GrewBy (before after : Meta) (counts : TidyCounts) : Type 0 where
-  pub height : after.height ≡ before.height + counts.grown
-  pub live : after.live + counts.merged ≡ before.live + (counts.grown + counts.split)
-
--- A file with the contents of this one. Where the tidying is done it is the one to which every image opens, it is tidy, and it grew by
--- what is counted. Where no page is free, it wants one.
+-- A sound file with the contents of this one.
 pub record HasSameRecords (s t : FileState) : Type 0 where
   pub sound : IsSound t
   pub contents : contents_of t ≡ contents_of s
 
-abbrev pub IsTidied : FileState → DiskModel → Result TidyCounts TidyStop → Type 0
-IsTidied s e (Ok counts) = (t : FileState) × HasSameRecords s t × IsEven e t × IsTidy t × GrewBy s.meta t.meta counts
-IsTidied s e (Err tidies.Full) = (t : FileState) × HasSameRecords s t × WantsPage t
-IsTidied s e (Err stop) = Unit {0}
+-- Where the tidying is done every image opens to the durable file, which is tidy, and grew by what is counted. Where no page is free, the
+-- file wants one.
+abbrev pub IsTidied : FileState → DiskModel → Files → Result TidyCounts TidyStop → Type 0
+IsTidied s e files (Ok counts) = HasSameRecords s files.durable × IsEven e files.durable × IsTidy files.durable × GrewBy s.meta files.durable.meta counts
+IsTidied s e files (Err tidies.Full) = HasSameRecords s (current_file files) × WantsPage (current_file files)
+IsTidied s e files (Err stop) = Unit {0}
 
--- What a tidying leaves of a file: at each moment a sound file with its contents.
-pub record LeavesTidied (s : FileState) (d e : DiskModel) (result : Result TidyCounts TidyStop) : Type 0 where
+-- What a tidying that came to this machine leaves of a file: at each moment a sound file with its contents; and at the end the machine's
+-- files are those of the disk.
+pub record LeavesTidied (s : FileState) (d e : DiskModel) (after : Machine) (result : Result TidyCounts TidyStop) : Type 0 where
   pub even : IsEven d s → Leaves d e (HasContents s)
   pub late : LeavesLate d e (HasContents s)
-  pub ends : IsTidied s e result
+  pub shows : ShowsFiles e after
+  pub ends : IsTidied s e shows.files result
 
 -- What follows where it is done over a disk that tells and opens to this sound file: its line was put, and every image opens to one file
 -- then, which has the same records and is tidy. Each whole walk from the root has as many pages as it has levels, unless the root has

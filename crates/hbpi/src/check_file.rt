@@ -1,13 +1,13 @@
 //! The command `check`.
 ghost use Rattle.std.specs.Prelude.{Some};
 ghost use Rattle.hb_outside.specs.Calls.{SourceModel};
-ghost use Rattle.hbpi.specs.Runs.{RunsForm};
-ghost use Rattle.hbpi.specs.SeenRuns.{seen_by};
+ghost use Rattle.hbpi.specs.Runs.{RunsFromTo};
 ghost use Rattle.hbpi.specs.declared.forms.Form.TheVariants as forms;
 
 use crate::dry::refused;
 use crate::finished::Finished;
 use crate::saying::{say, sound_line};
+use crate::starting::knows_laws;
 use crate::statuses::Status;
 use hb_disk::Device;
 use hb_outside::Sink;
@@ -17,8 +17,9 @@ use std::alloc::Global;
 /// The command `check`: opens the file of the disk, which tests all its rules, and says its height, its pages in use and its
 /// records.
 pub(crate) fn check_file<K: Sink, D: Device>(alloc: Global, mut sink: K, disk: D) -> Finished<K, D>
-    ensures { (source : SourceModel) → RunsForm D.model (Some forms.Check) (seen_by source source (K.model sink) (K.model result.sink) result.answered.items result.order.items) disk result.disk result.status }
+    ensures { (source : SourceModel) → RunsFromTo D.model K.model (Some forms.Check) source source sink disk result }
 {
+    knows_laws();
     match recover(alloc, disk) {
         Ok((store, records)) => {
             let status = say(&mut sink, sound_line(store.meta(), records).as_slice());

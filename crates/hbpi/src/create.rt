@@ -2,8 +2,7 @@
 ghost use Rattle.std.specs.Prelude.{◌≡◌, ◌≢◌, ℕ, ◌≤◌, ◌<◌, IfOk, IfErr, IsSome, Some, None};
 ghost use Rattle.hb_store.specs.Opening.{IsEven};
 ghost use Rattle.hb_outside.specs.Calls.{SourceModel};
-ghost use Rattle.hbpi.specs.Runs.{RunsForm};
-ghost use Rattle.hbpi.specs.SeenRuns.{seen_by};
+ghost use Rattle.hbpi.specs.Runs.{RunsFromTo};
 ghost use Rattle.hbpi.specs.declared.forms.Form.TheVariants as forms;
 ghost use Rattle.hb_restart.specs.Layouts.{first_fault, size_of};
 ghost use Rattle.hb_restart.specs.NewFiles.{new_file};
@@ -65,7 +64,7 @@ pub(crate) fn create_file<K: Sink, D: Device>(
     mut sink: K,
     disk: D,
 ) -> Finished<K, D>
-    ensures { (source : SourceModel) → RunsForm D.model (Some (forms.Create k pages log dcap icap)) (seen_by source source (K.model sink) (K.model result.sink) result.answered.items result.order.items) disk result.disk result.status }
+    ensures { (source : SourceModel) → RunsFromTo D.model K.model (Some (forms.Create k pages log dcap icap)) source source sink disk result }
 {
     match make(alloc, disk, k, pages, log, dcap, icap) {
         Ok(disk) => {

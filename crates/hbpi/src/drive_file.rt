@@ -1,7 +1,6 @@
 //! The command `drive`.
 ghost use Rattle.std.specs.Prelude.{Some};
-ghost use Rattle.hbpi.specs.Runs.{RunsForm};
-ghost use Rattle.hbpi.specs.SeenRuns.{seen_by};
+ghost use Rattle.hbpi.specs.Runs.{RunsFromTo};
 ghost use Rattle.hbpi.specs.declared.forms.Form.TheVariants as forms;
 
 use crate::dry::refused;
@@ -22,7 +21,7 @@ pub(crate) fn drive_file<S: Source, K: Sink, D: Disk>(
     sink: K,
     disk: D,
 ) -> Finished<K, D>
-    ensures { RunsForm D.model (Some forms.Drive) (seen_by (S.model source.old) (S.model source.new) (K.model sink) (K.model result.sink) result.answered.items result.order.items) disk result.disk result.status }
+    ensures { RunsFromTo D.model K.model (Some forms.Drive) (S.model source.old) (S.model source.new) sink disk result }
 {
     knows_laws();
     match start(alloc, Origin::Text { step_lines: true }, source, disk) {

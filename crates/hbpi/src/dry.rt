@@ -3,8 +3,7 @@ ghost use Rattle.std.specs.Prelude.{◌≡◌, ℕ, ◌≤◌, length, Some};
 ghost use Rattle.hb_set.specs.Scripts.{IsScriptFor};
 ghost use Rattle.hbpi.specs.DryParts.{EndsBySink, EndsRun, put_status};
 ghost use Rattle.hbpi.specs.Handing.{HandsBack, HandsOver};
-ghost use Rattle.hbpi.specs.Runs.{RunsForm};
-ghost use Rattle.hbpi.specs.SeenRuns.{seen_by};
+ghost use Rattle.hbpi.specs.Runs.{RunsFromTo};
 ghost use Rattle.hbpi.specs.declared.forms.Form.TheVariants as forms;
 
 use crate::answers::{Answers, answer_lines};
@@ -91,7 +90,7 @@ pub(crate) fn dry<S: Source, K: Sink, D: Device>(
     sink: K,
     disk: D,
 ) -> Finished<K, D>
-    ensures { RunsForm D.model (Some (forms.Dry k.number)) (seen_by (S.model source.old) (S.model source.new) (K.model sink) (K.model result.sink) result.answered.items result.order.items) disk result.disk result.status }
+    ensures { RunsFromTo D.model K.model (Some (forms.Dry k.number)) (S.model source.old) (S.model source.new) sink disk result }
 {
     match read_script(alloc, k, false, source) {
         Ok(script) => run_script(alloc, &script, sink, disk),

@@ -1,8 +1,7 @@
 //! The command `gen`.
 ghost use Rattle.std.specs.Prelude.{◌≤◌, Some};
 ghost use Rattle.hb_outside.specs.Calls.{SourceModel};
-ghost use Rattle.hbpi.specs.Runs.{RunsForm};
-ghost use Rattle.hbpi.specs.SeenRuns.{seen_by};
+ghost use Rattle.hbpi.specs.Runs.{RunsFromTo};
 ghost use Rattle.hbpi.specs.declared.forms.Form.TheVariants as forms;
 
 use crate::dry::refused;
@@ -25,7 +24,7 @@ pub(crate) fn gen_text<K: Sink, D: Device>(
     disk: D,
 ) -> Finished<K, D>
     requires { n ≤ 1000000 }
-    ensures { (source : SourceModel) → RunsForm D.model (Some (forms.Gen x n k.number)) (seen_by source source (K.model sink) (K.model result.sink) result.answered.items result.order.items) disk result.disk result.status }
+    ensures { (source : SourceModel) → RunsFromTo D.model K.model (Some (forms.Gen x n k.number)) source source sink disk result }
 {
     match generate(alloc, x, n, k) {
         Ok(text) => {

@@ -2,10 +2,10 @@
 //!
 //! The one contract: `top::top` does what the words ask for, over any source, sink and disk. It says
 //! which row of one table the run is of (`RunEnds`): for each form and status why it comes, what was
-//! read and written, what was answered in which order, and what a crash may leave of the disk. What
-//! follows of that is lemmas of `proofs/`. `run_process` and `run` make the disk, the source and the
-//! sink, call `top` with the words after the file's name, and give its status; nothing is claimed of
-//! these two, since no contract can say what a file or a stream holds.
+//! read and written, what was answered in which order, and what a crash may leave of the disk; and
+//! beside the row what is promised of the run. `run_process` and `run` make the disk, the source and
+//! the sink, call `top` with the words after the file's name, and give its status; nothing is claimed
+//! of these two, since no contract can say what a file or a stream holds.
 //!
 //! What every run keeps: no command is done unless the whole text is good, and a refusal writes one
 //! fault line and no more. In a plain run, and over a disk that tells its bytes, the replies are

@@ -2,13 +2,13 @@
 ghost use Rattle.std.specs.Prelude.{◌≡◌, Some};
 ghost use Rattle.hb_outside.specs.Calls.{SourceModel};
 ghost use Rattle.hbpi.specs.Mapped.{map_status};
-ghost use Rattle.hbpi.specs.Runs.{RunsForm};
-ghost use Rattle.hbpi.specs.SeenRuns.{seen_by};
+ghost use Rattle.hbpi.specs.Runs.{RunsFromTo};
 ghost use Rattle.hbpi.specs.declared.forms.Form.TheVariants as forms;
 
 use crate::dry::refused;
 use crate::faults::put_fault;
 use crate::finished::Finished;
+use crate::starting::knows_laws;
 use crate::statuses::{Damage, Status};
 use hb_disk::Device;
 use hb_map::{MapStop, put_map};
@@ -32,8 +32,9 @@ fn status_of(mapped: &Result<(), MapStop>) -> Status
 /// The command `map`: opens the file of the disk, which tests all its rules, and puts its map. Where that isn't whole, the fault line
 /// stands behind a front of it.
 pub(crate) fn map_file<K: Sink, D: Device>(alloc: Global, mut sink: K, disk: D) -> Finished<K, D>
-    ensures { (source : SourceModel) → RunsForm D.model (Some forms.Map) (seen_by source source (K.model sink) (K.model result.sink) result.answered.items result.order.items) disk result.disk result.status }
+    ensures { (source : SourceModel) → RunsFromTo D.model K.model (Some forms.Map) source source sink disk result }
 {
+    knows_laws();
     match recover(alloc, disk) {
         Ok((mut store, _records)) => {
             // The frames are those of the pages in memory, as the map wants it.

@@ -1,7 +1,6 @@
 //! The command `run`.
 ghost use Rattle.std.specs.Prelude.{Some};
-ghost use Rattle.hbpi.specs.Runs.{RunsForm};
-ghost use Rattle.hbpi.specs.SeenRuns.{seen_by};
+ghost use Rattle.hbpi.specs.Runs.{RunsFromTo};
 ghost use Rattle.hbpi.specs.declared.forms.Form.TheVariants as forms;
 
 use crate::dry::refused;
@@ -25,7 +24,7 @@ pub(crate) fn run_file<
     D: Disk + Send,
     G: Gate + Sync,
 >(rt: &R, alloc: Global, source: &mut S, sink: K, disk: D, gate: &G) -> Finished<K, D>
-    ensures { RunsForm D.model (Some forms.Run) (seen_by (S.model source.old) (S.model source.new) (K.model sink) (K.model result.sink) result.answered.items result.order.items) disk result.disk result.status }
+    ensures { RunsFromTo D.model K.model (Some forms.Run) (S.model source.old) (S.model source.new) sink disk result }
 {
     knows_laws();
     match start(alloc, Origin::Text { step_lines: false }, source, disk) {

@@ -15,14 +15,19 @@ use hb_disk::Disk;
 use hb_gen::generate;
 use hb_gen::laws::a_generated_text_says_its_lines;
 use hb_outside::Source;
+use hb_restart::laws::{a_good_file_is_not_refused, bytes_are_refused_in_one_way};
 use hb_restart::recover;
 use hb_set::{Command, Line, Script};
 use hb_sound::laws::{
-    a_level_parts_the_space, a_walk_ends_at_the_responsible_page, records_stand_once,
+    a_level_parts_the_space, a_walk_ends_at_the_responsible_page, fully_posted_walks_are_short,
+    records_stand_once,
 };
 use hb_space::Attributes;
-use hb_steps::file_laws::a_beginning_keeps_all;
-use hb_steps::keeping_laws::steps_keep_all;
+use hb_steps::cause_laws::lines_are_refused_by_cause;
+use hb_steps::file_laws::{a_beginning_keeps_all, a_beginning_keeps_what_a_machine_keeps};
+use hb_steps::keeping_laws::{steps_go_on, steps_keep_all};
+use hb_steps::laws::{a_step_is_timed, each_point_has_one_page};
+use hb_steps::machine_laws::machines_stay_kept;
 use hb_store::{Store, an_image_opens_to_one_file};
 use hb_text::{TextError, read_commands};
 use std::alloc::Global;
@@ -32,11 +37,20 @@ pub(crate) fn knows_laws()
     ensures { StartLaws }
 {
     a_beginning_keeps_all();
+    a_beginning_keeps_what_a_machine_keeps();
     steps_keep_all();
+    steps_go_on();
+    machines_stay_kept();
+    a_step_is_timed();
+    lines_are_refused_by_cause();
     an_image_opens_to_one_file();
+    a_good_file_is_not_refused();
+    bytes_are_refused_in_one_way();
     a_walk_ends_at_the_responsible_page();
     a_level_parts_the_space();
+    each_point_has_one_page();
     records_stand_once();
+    fully_posted_walks_are_short();
 }
 
 /// That a line's body can be stored, and that its box is one, which their types say.
@@ -157,7 +171,7 @@ pub(crate) fn start<S: Source, D: Disk>(
 ) -> Result<(Core<D>, u64), (Status, D)>
     requires few { FitsOrigin origin }
     ensures has { IfOk result (λ r. HasStarted origin (S.model source.old) (S.model source.new) (D.model disk) (D.model (core_disk r.0)) (core_seen r.0) r.1) }
-    ensures refused { IfErr result (λ e. IsNotStarted origin (S.model source.old) (S.model source.new) (D.model disk) (D.model e.1) e.0) }
+    ensures refused { IfErr result (λ e. IsNotStarted D.model origin (S.model source.old) (S.model source.new) (D.model disk) (D.model e.1) e.0) }
 {
     match recover(alloc, disk) {
         Ok((store, records)) => match make_core(alloc, origin, source, store) {

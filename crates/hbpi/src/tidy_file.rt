@@ -4,8 +4,7 @@ ghost use Rattle.hb_core.specs.CoreSeen.{core_disk, core_seen};
 ghost use Rattle.hb_steps.specs.Machines.{Machine};
 ghost use Rattle.hb_core.specs.Working.{MayStep};
 ghost use Rattle.hb_tidy.specs.Tidying.{HasTidied};
-ghost use Rattle.hbpi.specs.Runs.{RunsForm};
-ghost use Rattle.hbpi.specs.SeenRuns.{seen_by};
+ghost use Rattle.hbpi.specs.Runs.{RunsFromTo};
 ghost use Rattle.hbpi.specs.TidyRuns.{EndsForced, MayTidyFirst, SaysTidied};
 ghost use Rattle.hbpi.specs.declared.forms.Form.TheVariants as forms;
 
@@ -62,7 +61,7 @@ pub(crate) fn tidy_file<S: Source, K: Sink, D: Disk>(
     mut sink: K,
     disk: D,
 ) -> Finished<K, D>
-    ensures { RunsForm D.model (Some forms.Tidy) (seen_by (S.model source.old) (S.model source.new) (K.model sink) (K.model result.sink) result.answered.items result.order.items) disk result.disk result.status }
+    ensures { RunsFromTo D.model K.model (Some forms.Tidy) (S.model source.old) (S.model source.new) sink disk result }
 {
     knows_laws();
     operations_are_counted();

@@ -1,8 +1,7 @@
 //! The program over any source, sink and disk.
 ghost use Rattle.std.specs.Prelude.{◌≡◌, false, map, string_bytes};
 ghost use Rattle.hbpi.specs.Forms.{form_of, is_threaded};
-ghost use Rattle.hbpi.specs.Runs.{RunsForm};
-ghost use Rattle.hbpi.specs.SeenRuns.{seen_by};
+ghost use Rattle.hbpi.specs.Runs.{RunsFromTo};
 
 use crate::check_file::check_file;
 use crate::create::create_file;
@@ -33,7 +32,7 @@ pub fn run_without_threads<S: Source, K: Sink, D: Disk>(
     disk: D,
 ) -> Finished<K, D>
     // As `top` says.
-    ensures { RunsForm D.model asked.form (seen_by (S.model source.old) (S.model source.new) (K.model sink) (K.model result.sink) result.answered.items result.order.items) disk result.disk result.status }
+    ensures { RunsFromTo D.model K.model asked.form (S.model source.old) (S.model source.new) sink disk result }
 {
     match asked.form {
         None => refused(alloc, Status::Usage, sink, disk),
@@ -69,7 +68,7 @@ pub fn quiet<R: Threads + Sync, S: Source, K: Sink, D: Disk>(
 ) -> Finished<K, D>
     requires { is_threaded (form_of (map string_bytes words.now)) ≡ false }
     // As `top` says.
-    ensures { RunsForm D.model (form_of (map string_bytes words.now)) (seen_by (S.model source.old) (S.model source.new) (K.model sink) (K.model result.sink) result.answered.items result.order.items) disk result.disk result.status }
+    ensures { RunsFromTo D.model K.model (form_of (map string_bytes words.now)) (S.model source.old) (S.model source.new) sink disk result }
 {
     let asked = QuietForm {
         form: Form::of_words(words),
@@ -91,7 +90,7 @@ pub fn top<R: Threads + Wait + Sync, S: Source, K: Sink + Send, D: Disk + Send, 
     // Which row of the table this run is of: the cause of its status, what was read and written, what was answered, and what
     // is on the disk. But for `run`, `work`, `drive`, `check`, `map` and `tidy`, and for `create` where it makes a file or
     // fails in it, the disk is given back as it was.
-    ensures { RunsForm D.model (form_of (map string_bytes words.now)) (seen_by (S.model source.old) (S.model source.new) (K.model sink) (K.model result.sink) result.answered.items result.order.items) disk result.disk result.status }
+    ensures { RunsFromTo D.model K.model (form_of (map string_bytes words.now)) (S.model source.old) (S.model source.new) sink disk result }
 {
     match Form::of_words(words) {
         Some(Form::Run) => run_file(rt, alloc, source, sink, disk, gate),

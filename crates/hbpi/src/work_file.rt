@@ -1,8 +1,7 @@
 //! The command `work`.
 ghost use Rattle.std.specs.Prelude.{Some};
 ghost use Rattle.hbpi.specs.Forms.{FitsLimits};
-ghost use Rattle.hbpi.specs.Runs.{RunsForm};
-ghost use Rattle.hbpi.specs.SeenRuns.{seen_by};
+ghost use Rattle.hbpi.specs.Runs.{RunsFromTo};
 ghost use Rattle.hbpi.specs.declared.forms.Form.TheVariants as forms;
 
 use crate::dry::refused;
@@ -37,7 +36,7 @@ pub(crate) fn work_file<
     gate: &G,
 ) -> Finished<K, D>
     requires { FitsLimits (forms.Work x n) }
-    ensures { RunsForm D.model (Some (forms.Work x n)) (seen_by (S.model source.old) (S.model source.new) (K.model sink) (K.model result.sink) result.answered.items result.order.items) disk result.disk result.status }
+    ensures { RunsFromTo D.model K.model (Some (forms.Work x n)) (S.model source.old) (S.model source.new) sink disk result }
 {
     knows_laws();
     match start(alloc, Origin::Drawn { state: x, lines: n }, source, disk) {

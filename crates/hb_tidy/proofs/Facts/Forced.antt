@@ -87,8 +87,9 @@ said_well flushes.Nothing why is = cc (is)
 -- ---- as a caller has it
 
 -- What a tidying comes to with a flush behind it, from the machine that it had come to.
-pub record FlushesOn (d : DiskModel) (m mid : Machine) (f : DiskModel) (c : RunningCore) : Type 0 where
+pub record FlushesOn (d : DiskModel) (m mid : Machine) (outcome : Outcome) (f : DiskModel) (c : RunningCore) : Type 0 where
   pub went : HasTidied d m f c
+  pub takes : StepsTo mid 19 outcome went.new
   pub stays : FileStays mid went.new
   pub none : went.new.stop ≡ None → went.new.store.log.groups ≡ []
 
@@ -97,7 +98,7 @@ module _ (laws : RunningLaws) (d : DiskModel) (m : Machine) (e : DiskModel) (old
   mid_may : MayStep e old t.new
   mid_may = may_then d e m old t
 
-  pub flushes_on : FlushesOn d m t.new f new
+  pub flushes_on : FlushesOn d m t.new (said_of_flush r) f new
   flushes_on =
       let run = step_runs laws e f t.new 19 (said_of_flush r) old new disk disk_next flusher mid_may steps touches in
       let kept = t.goes_on.kept in
@@ -106,6 +107,7 @@ module _ (laws : RunningLaws) (d : DiskModel) (m : Machine) (e : DiskModel) (old
       let same = tidied_then_new d e f m old new t two in
       record {
         went = tidied_then d e f m old new t two;
+        takes = subst (StepsTo t.new 19 (said_of_flush r)) (sym same) took;
         stays = subst (FileStays t.new) (sym same) (flusher_leaves t.new (said_of_flush r) two.new (flusher_stands (t.new.activity 19) (kept.classes 19)) took).same;
         none = λ on. ap (λ (x : Machine). x.store.log.groups) same ∙ none_waits t.new (said_of_flush r) two.new (sym (ap (λ (x : Machine). x.stop) same) ∙ on) (is_flush t.new (said_of_flush r) two.new kept runs took);
       }

@@ -1,5 +1,5 @@
 -- One call after another: what they come to together.
-use Rattle.std.proofs.Common.{◌≡◌, List, [], Option, Some, None, IfSome, Result, Ok, Err, refl, sym, ◌∙◌, subst, arith}
+use Rattle.std.proofs.Common.{◌≡◌, ℕ, ◌+◌, ◌≤◌, List, [], Option, Some, None, IfSome, Result, Ok, Err, refl, sym, ◌∙◌, subst, arith}
 use Rattle.std.specs.Result.{IfErr, IfOk}
 use Rattle.std.proofs.lemmas.List.Elements.{All-nil}
 use Rattle.hb_lemmas.proofs.Options.{if_value}
@@ -21,17 +21,19 @@ use Rattle.hb_steps.specs.Machines.{Files, Machine}
 use Rattle.hb_steps.specs.MomentLaws.{IsPrefixImage}
 use Rattle.hb_core.specs.Runs.{ChangesFile, CountsFaults, HoldsSince}
 use Rattle.hb_core.specs.Showing.{RunningCore}
+use Rattle.hb_core.specs.Relied.{MayRun}
 use Rattle.hb_core.specs.Working.{MayStep}
+use Rattle.hb_core.specs.declared.counts.TidyCounts.{TidyCounts}
 use Rattle.hb_tidy.specs.declared.stops.TidyStop.{TidyStop}
 use Rattle.hb_tidy.specs.declared.stops.TidyStop.TheVariants as stops
-use Rattle.hb_tidy.proofs.LiveCounted.{live_then}
 use Rattle.hb_core.proofs.Facts.RunFaults.{no_fault_in}
+use Rattle.hb_tidy.proofs.Facts.AddedCounts.{at_most_added}
 use Rattle.hb_tidy.proofs.Worked.{worked_as, worked_err, worked_then}
-use Rattle.hb_tidy.specs.Counted.{CountsRise}
+use Rattle.hb_tidy.specs.Counted.{AreAtMost}
 use Rattle.hb_tidy.specs.Going.{Does, Goes}
 use Rattle.hb_tidy.specs.Looking.{FileStays, Looks, LooksOver, NothingOf}
 use Rattle.hb_tidy.specs.Tidying.{HasTidied, KeepsSet, StopsTidying, file_now}
-use Rattle.hb_tidy.specs.Working.{HasWorked}
+use Rattle.hb_tidy.specs.Working.{HasWorked, operations_in, steps_in}
 
 -- ---- what becomes of machines
 
@@ -121,34 +123,11 @@ module _ {T U : Type 0} (v : T) (r : Result U TidyStop) (d e f : DiskModel) (old
   pub does_then : Does r d old m f c
   does_then = record { run = tidied_then d e f m mid c one.run two.run; worked = steps_then; err = ends_then }
 
--- ---- what becomes of counts
-
-pub rise_then : (a b c : RunningCore) → CountsRise a b → CountsRise b c → CountsRise a c
-rise_then a b c one two =
-    let t1 = one.taken in
-    let t2 = two.taken in
-    let g1 = one.done.grown in
-    let g2 = two.done.grown in
-    let p1 = one.done.posted in
-    let p2 = two.done.posted in
-    let s1 = one.done.split in
-    let s2 = two.done.split in
-    let m1 = one.done.merged in
-    let m2 = two.done.merged in
-    let h1 = one.height in
-    let h2 = two.height in
-    record {
-      taken = omega (arith, t1, t2);
-      done = record { grown = omega (arith, g1, g2); posted = omega (arith, p1, p2); split = omega (arith, s1, s2); merged = omega (arith, m1, m2) };
-      within = two.within;
-      height = omega (arith, h1, h2);
-      live = live_then a b c one.live two.live;
-    }
+-- ---- what becomes of calls
 
 pub goes_then : {T U : Type 0} (v : T) (r : Result U TidyStop) (d e f : DiskModel) (old mid new : RunningCore) → Goes (Ok v) d old e mid → Goes r e mid f new → Goes r d old f new
 goes_then v r d e f old mid new one two = record {
   does = λ m may. let first = one.does m may in does_then v r d e f old m mid new first (two.does first.run.new (may_then d e m mid first.run));
-  counts = rise_then old mid new one.counts two.counts;
   spent = two.spent;
   may = two.may;
 }
@@ -157,7 +136,6 @@ goes_then v r d e f old mid new one two = record {
 pub goes_err : {T U : Type 0} (stop : TidyStop) (d e : DiskModel) (old new : RunningCore) → Goes {T = T} (Err stop) d old e new → Goes {T = U} (Err stop) d old e new
 goes_err {T = T} {U = U} stop d e old new one = record {
   does = λ m may. let first = one.does m may in record { run = first.run; worked = worked_err {T = T} {U = U} stop old new m first.run.new first.worked; err = first.err };
-  counts = one.counts;
   spent = one.spent;
   may = tt;
 }
@@ -203,7 +181,6 @@ over_then knows v says then_knows r more final d e f old mid new one known two i
       let both = if_both (file_now m) knows (says v) then_knows known its first.ok in
       let second = two.looks first.does.run.new (may_then d e m mid first.does.run) (subst (λ (o : Option FileState). IfSome o then_knows) (sym first.same.file) both) in
       looks_then v says r more final knows imp d e f old m mid new its first second;
-  counts = rise_then old mid new one.counts two.counts;
   spent = two.spent;
   may = two.may;
   meta = two.meta ∙ one.meta;
@@ -214,7 +191,6 @@ over_then knows v says then_knows r more final d e f old mid new one known two i
 pub over_err : {T U : Type 0} (knows : FileState → Type 0) (stop : TidyStop) (says : T → FileState → Type 0) (other : U → FileState → Type 0) (d e : DiskModel) (old new : RunningCore) → LooksOver {T = T} knows (Err stop) says d old e new → LooksOver {T = U} knows (Err stop) other d old e new
 over_err {T = T} {U = U} knows stop says other d e old new one = record {
   looks = λ m may its. let first = one.looks m may its in record { does = record { run = first.does.run; worked = worked_err {T = T} {U = U} stop old new m first.does.run.new first.does.worked; err = first.does.err }; same = first.same; ok = tt };
-  counts = one.counts;
   spent = one.spent;
   may = tt;
   meta = one.meta;
@@ -229,7 +205,6 @@ over_weaker knows less r says other d e old new known imp one = record {
   looks = λ m may its.
       let first = one.looks m may (if_both (file_now m) less less knows (λ s a b. known s a) its its) in
       record { does = first.does; same = first.same; ok = ok_weaker (file_now m) less says other r imp its first.ok };
-  counts = one.counts;
   spent = one.spent;
   may = one.may;
   meta = one.meta;
@@ -242,7 +217,6 @@ over_ok knows v w says other d e old new imp one = record {
   looks = λ m may its.
       let first = one.looks m may its in
       record { does = record { run = first.does.run; worked = worked_as v w old new m first.does.run.new first.does.worked; err = tt }; same = first.same; ok = if_both (file_now m) knows (says v) (other w) imp its first.ok };
-  counts = one.counts;
   spent = one.spent;
   may = one.may;
   meta = one.meta;
@@ -254,11 +228,20 @@ over_ok knows v w says other d e old new imp one = record {
 pub over_known : {T : Type 0} (knows : FileState → Type 0) (r : Result T TidyStop) (says : T → FileState → Type 0) (d e : DiskModel) (old new : RunningCore) → LooksOver NothingOf r says d old e new → LooksOver knows r says d old e new
 over_known knows r says d e old new one = over_weaker NothingOf knows r says says d e old new (λ s known. tt) (λ s v known said. said) one
 
+-- no count falls
+later : (first last count : ℕ) → last ≡ first + count → first ≤ last
+later first last count is = omega (arith, is)
+
+pub goes_later : {T : Type 0} (r : Result T TidyStop) (d e : DiskModel) (old new : RunningCore) → Goes r d old e new → MayRun d old → old.taken ≤ new.taken
+goes_later r d e old new goes may = let one = goes.does may.0 may.1 in later old.taken new.taken (steps_in one.worked.events) one.worked.counted
+
+pub goes_rises : {T : Type 0} (r : Result T TidyStop) (d e : DiskModel) (old new : RunningCore) → Goes r d old e new → MayRun d old → AreAtMost old.done new.done
+goes_rises r d e old new goes may = let one = goes.does may.0 may.1 in subst (λ (c : TidyCounts). AreAtMost old.done c) (sym one.worked.did) (at_most_added old.done (operations_in one.worked.events))
+
 -- a look is a call
 pub over_goes : {T : Type 0} (r : Result T TidyStop) (says : T → FileState → Type 0) (d e : DiskModel) (old new : RunningCore) → LooksOver NothingOf r says d old e new → Goes r d old e new
 over_goes r says d e old new one = record {
   does = λ m may. (one.looks m may (if_value (file_now m) NothingOf (λ s is. tt))).does;
-  counts = one.counts;
   spent = one.spent;
   may = one.may;
 }

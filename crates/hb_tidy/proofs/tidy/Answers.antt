@@ -1,4 +1,4 @@
-use Rattle.std.proofs.Common.{◌≡◌, ◌⊎◌, ◌<◌, inl, inr, sym, ap, ◌∙◌, arith}
+use Rattle.std.proofs.Common.{◌≡◌, ◌⊎◌, ◌<◌, Ok, inl, inr, sym, ap, ◌∙◌, subst, arith}
 use Rattle.hb_disk.specs.Model.{DiskModel}
 use Rattle.hb_activity.specs.declared.jobs.JobKind.TheVariants.{Merge, Post}
 use Rattle.hb_steps.specs.ProgressLaws.{jobs_of}
@@ -6,12 +6,12 @@ use Rattle.hb_core.specs.CoreSeen.{core_seen, core_disk}
 use Rattle.hb_core.specs.declared.counts.TidyCounts.{TidyCounts}
 use Rattle.hb_tidy.proofs.Ends.{ends_at_once, ends_by_err, ends_well}
 use Rattle.hb_tidy.proofs.Exits.{over_value}
-use Rattle.hb_tidy.proofs.Facts.Joined.{goes_next, goes_then, over_goes}
+use Rattle.hb_tidy.proofs.Facts.Joined.{goes_later, goes_next, goes_rises, goes_then, over_goes}
 use Rattle.hb_tidy.proofs.PassParts.{Clean, passed_then}
 use Rattle.hb_tidy.proofs.Resting.{idle_rests}
 use Rattle.hb_tidy.proofs.RunsBegun.{goes_none}
 use Rattle.hb_tidy.proofs.ToDo.{falls_short, no_jobs, work_counts}
-use Rattle.hb_tidy.specs.Counted.{added}
+use Rattle.hb_tidy.specs.Counted.{AreAtMost, added}
 use Rattle.hb_tidy.specs.Finding.{IsTidy}
 use Rattle.hb_tidy.specs.Going.{MayTidy}
 use Rattle.hb_tidy.specs.Looking.{NothingOf}
@@ -32,7 +32,6 @@ loop-core-init g c =
         waiting = c.all_is_kept_between_steps.ensures.waiting;
         looking = c.all_is_kept_between_steps.ensures.looking;
         counts = c.operations_are_counted.ensures.within;
-        height = c.operations_are_counted.ensures.height;
       };
       runs = c.requires.may;
       counts = c.requires.counts;
@@ -121,7 +120,21 @@ loop-core-smaller g c =
     ] in
     let counts = work_counts (λ (x : _). M (core_disk x)) core_seen c.pass.new.core c.work_off.new.core c.work_off-in-loop-core.new.core m shows c.in_ok-work_off.ensures.done c.in_ok-work_off-2.ensures.done some c.in_ok-work_off.ensures.more c.in_ok-work_off-2.ensures.more in
     let left = c.in_ok-work_off-2.ensures.goes.may.left in
-    falls_short (core_seen c.loop-core.core).taken (core_seen c.pass.new.core).taken (core_seen c.work_off-in-loop-core.new.core).taken c.pass.ensures.counts.taken counts (omega (arith, left))
+    let before = M (core_disk c.loop-core.core) in
+    let after = M (core_disk c.pass.new.core) in
+    let passed = goes_later c.pass.result before after (core_seen c.loop-core.core) (core_seen c.pass.new.core) (over_goes c.pass.result (Clean IsTidy (core_seen c.pass.new.core)) before after (core_seen c.loop-core.core) (core_seen c.pass.new.core) c.pass.ensures) c.loop-core.invariant.may.runs in
+    falls_short (core_seen c.loop-core.core).taken (core_seen c.pass.new.core).taken (core_seen c.work_off-in-loop-core.new.core).taken passed counts (omega (arith, left))
+
+pub rise_of-requires : goal.rise_of-requires
+rise_of-requires g c =
+    let d = g.D.Device.model (core_disk c.args.core.now) in
+    let mid = g.D.Device.model (core_disk c.loop-core.core) in
+    let e = g.D.Device.model (core_disk c.pass.new.core) in
+    let old = core_seen c.args.core.now in
+    let new = core_seen c.pass.new.core in
+    let passed = passed_then (tt {0}) c.pass.result d mid e old (core_seen c.loop-core.core) new c.loop-core.invariant.goes c.pass.ensures c.in_ok-pass.was in
+    let rises = goes_rises (Ok (tt {0})) d e old new passed c.requires.may in
+    subst (λ (x : TidyCounts). AreAtMost x c.done.result) (sym c.loop-core.invariant.before) (subst (λ (x : TidyCounts). AreAtMost old.done x) (sym c.done.ensures) rises)
 
 pub work_off-requires : goal.work_off-requires
 work_off-requires g c = record { may = c.in_ok-pass.ensures.may; rests = c.pass.ensures.rests c.loop-core.invariant.rests }

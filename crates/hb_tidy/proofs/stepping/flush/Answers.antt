@@ -1,7 +1,6 @@
 use Rattle.hb_core.specs.Between.{said_of_flush}
 use Rattle.hb_core.specs.CoreSeen.{core_seen, core_disk}
 use Rattle.hb_tidy.proofs.CallsMade.{flush_drops, flush_looks}
-use Rattle.hb_tidy.proofs.CountsOfCalls.{flush_rises}
 use Rattle.hb_tidy.proofs.WorkerSteps.{flush_took}
 use Rattle.hb_tidy.proofs.stepping.flush.Goals as goal
 
@@ -15,4 +14,4 @@ returns-clause-looks g c =
     let may = c.requires.may in
     let outcome = said_of_flush c.help-flushed.result in
     let took = flush_took d old outcome e new (g.met.D.Device.is_disk (core_disk c.args.core.now)) (g.met.D.Device.is_disk (core_disk c.help-flushed.new.self)) may told.steps told.touches told.counts c.requires.crowded in
-    flush_looks d old outcome e new took may c.went_on.result c.went_on.ensures (flush_rises may.laws.counts old new told.counts may.counts may.left) told.counts.no_op.meta (flush_drops c.help-flushed.result)
+    flush_looks d old outcome e new took may c.went_on.result c.went_on.ensures (may.laws.counts.flush old new told.counts may.counts) told.counts.no_op.meta (flush_drops c.help-flushed.result took.op)

@@ -7,12 +7,13 @@ use Rattle.hb_disk.specs.Model.{DiskModel}
 use Rattle.hb_outside.specs.Calls.{SinkModel}
 use Rattle.hb_space.specs.Actors.{IsActor}
 use Rattle.hbpi.proofs.CoreEnds.{core_beyond, core_ends}
+use Rattle.hbpi.proofs.Promised.{keeps_steps}
 use Rattle.hbpi.proofs.RunsOf.{runs_form}
 use Rattle.hbpi.proofs.TextEnds.{RanText, text_core}
 use Rattle.hbpi.proofs.Turned.{turned}
 use Rattle.hbpi.specs.Driven.{by_schedule}
 use Rattle.hbpi.specs.Handing.{GivenBack, RunLeft}
-use Rattle.hbpi.specs.SeenRuns.{seen_by}
+use Rattle.hbpi.specs.SeenRuns.{run_of, seen_by}
 use Rattle.hbpi.specs.declared.forms.Form.TheVariants.{Drive}
 use Rattle.hbpi.proofs.drive_file.drive_file.Goals as goal
 
@@ -40,8 +41,10 @@ returns-in-Ok g c =
       ended = c.finish.ensures;
     } in
     let ran = text_core M S true exactly _ _ _ _ _ facts (M c.args.disk) before after in
-    runs_form M (Some Drive) (seen_by before after (S c.args.sink) (S c.finish.result.sink) c.finish.result.answered.items c.finish.result.order.items) c.args.disk c.finish.result.disk c.finish.result.status
-    (core_ends M by_schedule _ _ _ _ _ _ _ ran c.knows_laws.ensures started) tt (core_beyond M by_schedule _ _ _ _ _ _ _ ran c.knows_laws.ensures started) (λ leaves. absurd leaves)
+    let seen = seen_by before after (S c.args.sink) (S c.finish.result.sink) c.finish.result.answered.items c.finish.result.order.items in
+    let ends = core_ends M by_schedule _ _ _ _ _ _ _ ran c.knows_laws.ensures started in
+    runs_form M (Some Drive) seen c.args.disk c.finish.result.disk c.finish.result.status ends tt (core_beyond M by_schedule _ _ _ _ _ _ _ ran c.knows_laws.ensures started) (λ leaves. absurd leaves)
+    (keeps_steps c.knows_laws.ensures (run_of M seen (M c.args.disk) (M c.finish.result.disk)) c.finish.result.status by_schedule ends)
 
 pub returns-in-Err : goal.returns-in-Err
 returns-in-Err g c =
@@ -53,4 +56,6 @@ returns-in-Err g c =
     let answered = c.refused.result.answered.items in
     let order = c.refused.result.order.items in
     let away = turned M c.args.disk c.in-Err.disk c.refused.result.disk before after sink put answered order c.in-Err.status c.refused.result.status c.refused.ensures by_schedule c.in-Err.ensures.refused in
-    runs_form M (Some Drive) (seen_by before after sink put answered order) c.args.disk c.refused.result.disk c.refused.result.status away.0 tt away.1 (λ leaves. absurd leaves)
+    let seen = seen_by before after sink put answered order in
+    runs_form M (Some Drive) seen c.args.disk c.refused.result.disk c.refused.result.status away.0 tt away.1 (λ leaves. absurd leaves)
+    (keeps_steps c.knows_laws.ensures (run_of M seen (M c.args.disk) (M c.refused.result.disk)) c.refused.result.status by_schedule away.0)

@@ -11,7 +11,7 @@ returns-in-Ok g c =
     let run = c.run_script.result in
     let seen : Seen = seen_by (g.S.Source.model c.args.source.now) (g.S.Source.model c.read_script.new.source) (g.K.Sink.model c.args.sink) (g.K.Sink.model run.sink) run.answered.items run.order.items in
     runs_form g.D.Device.model (Some (Dry k)) seen c.args.disk run.disk run.status
-    (dry_ran k seen c.in-Ok.script.lines c.in-Ok.script.steps run.status c.in-Ok.ensures.came c.run_script.ensures.ends) tt tt (λ leaves. c.run_script.ensures.disk)
+    (dry_ran k seen c.in-Ok.script.lines c.in-Ok.script.steps run.status c.in-Ok.ensures.came c.run_script.ensures.ends) tt tt (λ leaves. c.run_script.ensures.disk) tt
 
 pub returns-in-Err : goal.returns-in-Err
 returns-in-Err g c =
@@ -19,4 +19,4 @@ returns-in-Err g c =
     let back = c.refused.result in
     let seen : Seen = seen_by (g.S.Source.model c.args.source.now) (g.S.Source.model c.read_script.new.source) (g.K.Sink.model c.args.sink) (g.K.Sink.model back.sink) back.answered.items back.order.items in
     runs_form g.D.Device.model (Some (Dry k)) seen c.args.disk back.disk back.status
-    (dry_refused k seen c.in-Err.status back.status c.args.disk back.disk c.in-Err.ensures.refused c.refused.ensures) tt tt (λ leaves. c.refused.ensures.disk_is)
+    (dry_refused k seen c.in-Err.status back.status c.args.disk back.disk c.in-Err.ensures.refused c.refused.ensures) tt tt (λ leaves. c.refused.ensures.disk_is) tt

@@ -15,7 +15,7 @@ returns-in-Ok g c source =
     runs_form g.D.Device.model (Some (Gen c.args.x c.args.n k)) seen c.args.disk c.args.disk c.say-status.result (inr (
       record { unread = record { rest = refl; faults = refl }; none_answered = c.new.ensures.items; none_ordered = c.new-in-Ok.ensures.items },
       subst (λ (line : List ℕ). IsSaid line sink put c.say-status.result) is c.say-status.ensures,
-    )) tt tt (λ leaves. refl)
+    )) tt tt (λ leaves. refl) tt
 
 pub returns-in-Err : goal.returns-in-Err
 returns-in-Err g c source =
@@ -24,4 +24,4 @@ returns-in-Err g c source =
     let left = c.refused.result in
     let seen : Seen = seen_by source source (g.K.Sink.model c.args.sink) (g.K.Sink.model left.sink) left.answered.items left.order.items in
     runs_form g.D.Device.model (Some (Gen c.args.x c.args.n k)) seen c.args.disk left.disk left.status
-    (inl (back.status_is, record { line = back.line; none_answered = back.none_answered; none_ordered = back.none_ordered }, record { rest = refl; faults = refl })) tt tt (λ leaves. back.disk_is)
+    (inl (back.status_is, record { line = back.line; none_answered = back.none_answered; none_ordered = back.none_ordered }, record { rest = refl; faults = refl })) tt tt (λ leaves. back.disk_is) tt

@@ -18,7 +18,7 @@ returns-in-Ok-help g c =
     record {
       tidies = λ m may.
           let went = c.in-Ok.ensures.tidies m may in
-          forced_well c.runs_go_on.ensures (M (core_disk c.args.core.now)) m (M (core_disk c.tidy.new.core)) (core_seen c.args.core.now) (core_seen c.tidy.new.core) (M (core_disk c.help.new.self)) (core_seen c.help.new.self) c.in-Ok.counts went.0 went.2 may.shows.store
+          forced_well c.runs_go_on.ensures (M (core_disk c.args.core.now)) m (M (core_disk c.tidy.new.core)) (core_seen c.args.core.now) (core_seen c.tidy.new.core) (M (core_disk c.help.new.self)) (core_seen c.help.new.self) c.in-Ok.counts went.0 went.1 went.2
           (g.met.D.Device.is_disk (core_disk c.tidy.new.core)) (g.met.D.Device.is_disk (core_disk c.help.new.self)) c.in-Ok-help.field-0 c.in-Ok-help.ensures.steps c.in-Ok-help.ensures.touches;
     }
 
@@ -30,7 +30,7 @@ returns-in-Err-help g c =
       tidies = λ m may.
           let went = c.in-Ok.ensures.tidies m may in
           let begun : m.stop ≡ None = may.shows.stop ∙ sym some.1.shows.stop ∙ some.2 in
-          forced_badly c.runs_go_on.ensures (M (core_disk c.args.core.now)) m (M (core_disk c.tidy.new.core)) (core_seen c.args.core.now) (core_seen c.tidy.new.core) (M (core_disk c.help.new.self)) (core_seen c.help.new.self) c.in-Ok.counts went.0 went.2 may.shows.store
+          forced_badly c.runs_go_on.ensures (M (core_disk c.args.core.now)) m (M (core_disk c.tidy.new.core)) (core_seen c.args.core.now) (core_seen c.tidy.new.core) (M (core_disk c.help.new.self)) (core_seen c.help.new.self) c.in-Ok.counts went.0 went.1 went.2
           (g.met.D.Device.is_disk (core_disk c.tidy.new.core)) (g.met.D.Device.is_disk (core_disk c.help.new.self)) c.in-Err-help.field-0 c.in-Err-help.ensures.steps c.in-Err-help.ensures.touches c.in-Err-help.ensures.stop begun;
     }
 

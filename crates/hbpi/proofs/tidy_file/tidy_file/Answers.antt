@@ -5,10 +5,11 @@ use Rattle.hb_disk.specs.Model.{DiskModel}
 use Rattle.hb_store.specs.declared.store.Store.{Store}
 use Rattle.hb_tidy.specs.Tidying.{AllAtRest}
 use Rattle.hbpi.proofs.CoreEnds.{may_begin_running}
+use Rattle.hbpi.proofs.Promised.{keeps_tidy}
 use Rattle.hbpi.proofs.RunsOf.{runs_form}
 use Rattle.hbpi.proofs.TidyEnds.{TidiedCore, tidied_beyond, tidied_ends}
 use Rattle.hbpi.proofs.Turned.{turned_tidy}
-use Rattle.hbpi.specs.SeenRuns.{seen_by}
+use Rattle.hbpi.specs.SeenRuns.{run_of, seen_by}
 use Rattle.hbpi.specs.Tidied.{nobody}
 use Rattle.hbpi.specs.declared.forms.Form.TheVariants.{Tidy}
 use Rattle.hbpi.proofs.tidy_file.tidy_file.Goals as goal
@@ -38,9 +39,11 @@ returns-in-Ok g c =
       none_answered = c.new.ensures.items;
       order_is = c.into_store-store.ensures.order;
     } in
-    runs_form M (Some Tidy) (seen_by before after sink put c.new.result.items order) c.args.disk c.into_disk.result c.say_tidied-status.result
-    (tidied_ends M _ _ _ _ _ _ _ _ _ _ _ facts c.knows_laws.ensures (M c.args.disk) before after started) tt
+    let seen = seen_by before after sink put c.new.result.items order in
+    let ends = tidied_ends M _ _ _ _ _ _ _ _ _ _ _ facts c.knows_laws.ensures (M c.args.disk) before after started in
+    runs_form M (Some Tidy) seen c.args.disk c.into_disk.result c.say_tidied-status.result ends tt
     (tidied_beyond M _ _ _ _ _ _ _ _ _ _ _ facts c.knows_laws.ensures (M c.args.disk) before after started) (λ leaves. absurd leaves)
+    (keeps_tidy c.knows_laws.ensures (run_of M seen (M c.args.disk) (M c.into_disk.result)) c.say_tidied-status.result ends)
 
 pub returns-in-Err : goal.returns-in-Err
 returns-in-Err g c =
@@ -52,4 +55,6 @@ returns-in-Err g c =
     let answered = c.refused.result.answered.items in
     let order = c.refused.result.order.items in
     let away = turned_tidy M c.args.disk c.in-Err.disk c.refused.result.disk before after sink put answered order c.in-Err.status c.refused.result.status c.refused.ensures c.in-Err.ensures.refused in
-    runs_form M (Some Tidy) (seen_by before after sink put answered order) c.args.disk c.refused.result.disk c.refused.result.status away.0 tt away.1 (λ leaves. absurd leaves)
+    let seen = seen_by before after sink put answered order in
+    runs_form M (Some Tidy) seen c.args.disk c.refused.result.disk c.refused.result.status away.0 tt away.1 (λ leaves. absurd leaves)
+    (keeps_tidy c.knows_laws.ensures (run_of M seen (M c.args.disk) (M c.refused.result.disk)) c.refused.result.status away.0)

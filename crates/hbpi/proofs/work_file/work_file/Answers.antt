@@ -4,12 +4,13 @@ use Rattle.hb_disk.specs.Model.{DiskModel}
 use Rattle.hb_outside.specs.Calls.{SinkModel}
 use Rattle.hbpi.proofs.CoreEnds.{core_beyond, core_ends}
 use Rattle.hbpi.proofs.CountingEnds.{RanCounting, counting_core}
+use Rattle.hbpi.proofs.Promised.{keeps_work}
 use Rattle.hbpi.proofs.RunsOf.{runs_form}
 use Rattle.hbpi.proofs.Turned.{turned}
 use Rattle.hbpi.proofs.WorkedOff.{ran_off}
 use Rattle.hbpi.specs.Driven.{by_counting}
 use Rattle.hbpi.specs.Handing.{GivenBack, RunLeft}
-use Rattle.hbpi.specs.SeenRuns.{Seen, seen_by}
+use Rattle.hbpi.specs.SeenRuns.{Seen, run_of, seen_by}
 use Rattle.hbpi.specs.declared.forms.Form.TheVariants.{Work}
 use Rattle.hbpi.proofs.work_file.work_file.Goals as goal
 
@@ -29,8 +30,9 @@ returns-in-Ok g c =
       ended = c.finish_counting.ensures;
     } in
     let ran = counting_core M S c.args.x c.args.n _ _ c.in-Ok.records _ _ _ (M c.args.disk) before after facts c.knows_laws.ensures started c.in-Ok.ensures.has.count_is in
-    runs_form M (Some (Work c.args.x c.args.n)) seen c.args.disk c.finish_counting.result.disk c.finish_counting.result.status
-    (core_ends M (by_counting c.args.x c.args.n) _ _ _ _ _ _ _ ran c.knows_laws.ensures started) tt (core_beyond M (by_counting c.args.x c.args.n) _ _ _ _ _ _ _ ran c.knows_laws.ensures started) (λ leaves. absurd leaves)
+    let ends = core_ends M (by_counting c.args.x c.args.n) _ _ _ _ _ _ _ ran c.knows_laws.ensures started in
+    runs_form M (Some (Work c.args.x c.args.n)) seen c.args.disk c.finish_counting.result.disk c.finish_counting.result.status ends tt (core_beyond M (by_counting c.args.x c.args.n) _ _ _ _ _ _ _ ran c.knows_laws.ensures started) (λ leaves. absurd leaves)
+    (keeps_work c.knows_laws.ensures (run_of M seen (M c.args.disk) (M c.finish_counting.result.disk)) c.finish_counting.result.status c.args.x c.args.n ends)
 
 pub returns-in-Err : goal.returns-in-Err
 returns-in-Err g c =
@@ -42,4 +44,6 @@ returns-in-Err g c =
     let answered = c.refused.result.answered.items in
     let order = c.refused.result.order.items in
     let away = turned M c.args.disk c.in-Err.disk c.refused.result.disk before after sink put answered order c.in-Err.status c.refused.result.status c.refused.ensures (by_counting c.args.x c.args.n) c.in-Err.ensures.refused in
-    runs_form M (Some (Work c.args.x c.args.n)) (seen_by before after sink put answered order) c.args.disk c.refused.result.disk c.refused.result.status away.0 tt away.1 (λ leaves. absurd leaves)
+    let seen = seen_by before after sink put answered order in
+    runs_form M (Some (Work c.args.x c.args.n)) seen c.args.disk c.refused.result.disk c.refused.result.status away.0 tt away.1 (λ leaves. absurd leaves)
+    (keeps_work c.knows_laws.ensures (run_of M seen (M c.args.disk) (M c.refused.result.disk)) c.refused.result.status c.args.x c.args.n away.0)
