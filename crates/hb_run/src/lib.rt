@@ -15,6 +15,8 @@ mod begun;
 mod bells;
 mod courses;
 mod gates;
+mod holds;
+mod ringing;
 mod rosters;
 mod seats;
 mod shared;

@@ -1,5 +1,7 @@
 //! Who takes turns.
+ghost use Rattle.std.specs.Prelude.{◌≡◌, IfOk, map};
 ghost use Rattle.hb_space.specs.Actors.{IsActor};
+ghost use Rattle.hb_run.specs.Seats.{AreSessionsOf};
 
 use crate::turns::Next;
 use hb_set::Line;
@@ -18,13 +20,16 @@ impl Seat {
     /// The seat of the actor.
     pub(crate) fn of(actor: Actor) -> Seat
         requires { IsActor actor }
+        ensures { result.actor ≡ actor }
     {
         Seat { actor }
     }
 }
 
 /// The sessions that have a line.
-pub(crate) fn sessions_of(alloc: Global, lines: &[Line]) -> Result<Vec<Seat>, NoMemory> {
+pub(crate) fn sessions_of(alloc: Global, lines: &[Line]) -> Result<Vec<Seat>, NoMemory>
+    ensures { IfOk result (λ seats. AreSessionsOf lines.now (map (λ s. s.actor) seats.items)) }
+{
     let mut seats = Vec::new(alloc);
     for session in 1..=SESSIONS {
         if lines.iter().any(|line| line.session == session) {

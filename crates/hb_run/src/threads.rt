@@ -7,6 +7,7 @@ use crate::begun::Begun;
 use crate::bells::Bells;
 use crate::courses::Course;
 use crate::gates::{Gate, Place};
+use crate::holds::Hold;
 use crate::seats::{Crew, Seat};
 use crate::shared::Shared;
 use crate::turns::{Next, Pause};
@@ -44,9 +45,7 @@ impl<R: Wait, N: Begun, D: Disk, K: Sink, G: Gate> Hall<'_, R, N, D, K, G> {
 
     /// A turn under one hold of the lock, or a look that takes none. Whoever it is news for is rung with the lock let go.
     fn turn(&self, seat: &Seat) -> Next {
-        let mut held = self.lock.lock(self.rt);
-        let (next, news) = held.turn(seat);
-        drop(held);
+        let (next, news) = Hold::take(self.rt, self.lock).turn(seat).let_go();
         self.bells.ring(news);
         next
     }
