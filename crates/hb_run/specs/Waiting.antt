@@ -119,6 +119,20 @@ Rests actor free moves c next = (actor ≡ FLUSHER) × (may_flush c ≡ false) �
 abbrev pub Steps : ℕ → Bool → List ℕ → Course → Course → Next → Type 0
 Steps actor free moves old new next = (outcome : Outcome) × TakesTurn actor outcome old new × GoesWell actor (length old.core.order) free moves new (Some (turn_of outcome)) next
 
+-- ---- of one that does so next
+
+-- it takes no turn any more
+abbrev pub has_ended : Next → Bool
+has_ended nexts.Goes = false
+has_ended (nexts.Waits pause) = false
+has_ended nexts.Ends = true
+
+-- it takes no turn for now
+abbrev pub takes_none : Signs → Next → Bool
+takes_none s nexts.Goes = false
+takes_none s (nexts.Waits pause) = still_waits pause s
+takes_none s nexts.Ends = true
+
 -- ---- who comes
 
 -- A session takes a further turn before something comes: it goes, or what it waited for has come.

@@ -1,6 +1,7 @@
 use Rattle.std.proofs.Common.{ℕ, ◌-◌, Bool, List, subst, sym}
 use Rattle.hb_run.specs.CourseSeen.{course_seen}
-use Rattle.hb_run.specs.Turning.{CountsMove, IsNews, settled_of}
+use Rattle.hb_run.specs.Ringing.{IsNews}
+use Rattle.hb_run.specs.Turning.{CountsMove, settled_of}
 use Rattle.hb_run.proofs.Waking.{wakes_all}
 use Rattle.hb_run.proofs.courses.Course.take_turn.Goals as goal
 
@@ -18,4 +19,4 @@ returns-clause-wakes g c =
     let E : Bool → Type 0 = λ b. CountsMove place b c.args.self.now.roster.moves c.turn-turn.new.self.roster.moves in
     wakes_all place moved c.args.self.now.roster.moves c.note.new.self.moves c.args.self.now.roster.coming coming old new news
     (subst B c.mark-before.ensures.round (subst A c.mark-before.ensures.settled c.news-news-2.ensures))
-    (subst C (sym c.note.ensures) (subst E (sym c.is_move.ensures) c.turn-turn.ensures.counts))
+    (subst C (sym c.note.ensures.moves) (subst E (sym c.is_move.ensures) c.turn-turn.ensures.counts))
