@@ -192,5 +192,5 @@ pub no_line_left : (d e : DiskModel) (old new : RunningCore) (actor : ℕ) (outc
 no_line_left d e old new actor outcome turn (found, may) steps is turn_is idle le m shows =
     let step = steps found may in
     let said = was_idle outcome (sym turn_is ∙ idle) in
-    let nothing = ran found actor outcome step.0 said found.stop (may.goes_on.kept.classes actor ∙ session_class actor le) step.1.0 in
-    all_answered e new actor is.from_1 le step.0 step.1.1 (subst (λ (x : Machine). FindsNothing x actor) (sym nothing.1) nothing.0) m shows
+    let nothing = ran found actor outcome step.0 said found.stop (may.goes_on.kept.classes actor ∙ session_class actor le) step.1 in
+    all_answered e new actor is.from_1 le step.0 step.2 (subst (λ (x : Machine). FindsNothing x actor) (sym nothing.1) nothing.0) m shows

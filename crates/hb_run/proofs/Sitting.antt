@@ -16,7 +16,7 @@ none_yet lines = record { sessions = λ session from to. absurd (omega (arith, f
 one_more : (actor last : ℕ) (actors : List ℕ) → times actor (actors ++ last ∷ []) ≡ times actor actors + cond (last == actor) 1 0
 one_more actor last actors = sum_by-append (λ (a : ℕ). cond (a == actor) 1 0) actors (last ∷ []) ∙ ap (λ (n : ℕ). times actor actors + n) (alone (cond (last == actor) 1 0))
   where
-    alone : (n : ℕ) → n + 0 ≡ n
+    alone : (n : ℕ) → 0 + n ≡ n
     alone n = omega arith
 
 pub sits : (lines : List Line) (most : ℕ) (actors new : List ℕ) → AreSessionsTo most lines actors → new ≡ cond (has_line lines (most + 1)) (actors ++ (most + 1) ∷ []) actors → AreSessionsTo (most + 1) lines new

@@ -141,10 +141,10 @@ impl<D: Disk, K: Sink> Course<D, K> {
         if self.is_done() {
             return Next::Ends;
         }
-        if self.jobs_left(kind) > 0 {
-            return Next::Goes;
+        if self.jobs_left(kind) == 0 {
+            return Next::Waits(Pause::NoJob { kind: *kind });
         }
-        Next::Waits(Pause::NoJob { kind: *kind })
+        Next::Goes
     }
 
     /// What an actor does next that this one kept back: it waits behind that.

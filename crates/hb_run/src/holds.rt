@@ -34,8 +34,8 @@ impl<'h, N: Begun, D: Disk, K: Sink> Hold<'h, N, D, K> {
 
     /// The turn of the actor.
     pub(crate) fn turn(self, seat: &Seat) -> Turned<'h, N, D, K>
-        ensures one { IsOneTurn (mutex_guard_value self.held) (mutex_guard_value result.held) }
-        ensures wakes { WakesAll result.news (mutex_guard_value self.held) (mutex_guard_value result.held) }
+        ensures one { IsOneTurn (mutex_guard_value self.entry.held) (mutex_guard_value result.held) }
+        ensures wakes { WakesAll result.news (mutex_guard_value self.entry.held) (mutex_guard_value result.held) }
     {
         let Hold { mut held } = self;
         let (next, news) = held.turn(seat);
@@ -46,8 +46,8 @@ impl<'h, N: Begun, D: Disk, K: Sink> Hold<'h, N, D, K> {
 impl<N: Begun, D: Disk, K: Sink> Turned<'_, N, D, K> {
     /// Lets the lock go, and says what the turn told.
     pub(crate) fn let_go(self) -> (Next, News)
-        ensures next { result.0 ≡ self.next }
-        ensures news { result.1 ≡ self.news }
+        ensures next { result.0 ≡ self.entry.next }
+        ensures news { result.1 ≡ self.entry.news }
     {
         let Turned { held, next, news } = self;
         drop(held);

@@ -1,5 +1,5 @@
 //! Who takes turns.
-ghost use Rattle.std.specs.Prelude.{◌≡◌, IfOk, map};
+ghost use Rattle.std.specs.Prelude.{◌≡◌, ◌++◌, [], ◌∷◌, if◌then◌else◌, IfOk, OnOk, map};
 ghost use Rattle.hb_space.specs.Actors.{IsActor};
 ghost use Rattle.hb_space.specs.declared.actors.TheConstants.{SESSIONS};
 ghost use Rattle.hb_run.specs.Seats.{AreSessionsTo, has_line};
@@ -27,17 +27,27 @@ impl Seat {
 }
 
 /// The sessions that have a line, each once.
+#[tactic(auto, using(crate::proofs::Sitting::sits, crate::proofs::Sitting::none_yet))]
 pub(crate) fn sessions_of(alloc: Global, lines: &[Line]) -> Result<Vec<Seat>, NoMemory>
     ensures { IfOk result (λ seats. AreSessionsTo SESSIONS lines.now (map (λ s. s.actor) seats.items)) }
 {
     let mut seats = Vec::new(alloc);
     for before in 0..SESSIONS {
-        let session = before + 1;
-        if has_line(lines, session) {
-            seats.push(Seat::of(session))?;
-        }
+        sit_down(&mut seats, before + 1, lines)?;
     }
     Ok(seats)
+}
+
+/// Gives the session a seat behind the others, where it has a line.
+fn sit_down(seats: &mut Vec<Seat>, session: Actor, lines: &[Line]) -> Result<(), NoMemory>
+    requires { IsActor session }
+    ensures { OnOk result (map (λ s. s.actor) seats.new.items ≡ (if has_line lines.now session then map (λ s. s.actor) seats.old.items ++ session ∷ [] else map (λ s. s.actor) seats.old.items)) }
+{
+    if !has_line(lines, session) {
+        return Ok(());
+    }
+    seats.push(Seat::of(session))?;
+    Ok(())
 }
 
 /// Whether the session has a line.

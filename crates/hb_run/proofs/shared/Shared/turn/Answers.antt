@@ -15,10 +15,10 @@ invariant_of-self g c =
     let P : Course g.row.D.Denot g.row.K.Denot g.D.Device g.K.Sink → Type 0 = λ x. KeepsRun g.N.Begun.beginning (course_seen g.D.Device.model g.K.Sink.model x) in
     ⊎_elim (λ rests. subst P (sym rests.0) c.self.invariant)
     (λ took. goes_on c.runs_go_on.ensures g.N.Begun.beginning c.args.seat.now.actor took.0 (course_seen g.D.Device.model g.K.Sink.model c.self.inside.course) (course_seen g.D.Device.model g.K.Sink.model c.take_turn.new.self)
-    c.args.seat.now.may (g.met.D.Device.is_disk (core_disk c.self.inside.course.core)) (g.met.D.Device.is_disk (core_disk c.take_turn.new.self.core)) c.self.invariant took.1.0)
+    c.args.seat.now.may (g.met.D.Device.is_disk (core_disk c.self.inside.course.core)) (g.met.D.Device.is_disk (core_disk c.take_turn.new.self.core)) c.self.invariant took.1)
     c.take_turn.ensures.turn
 
 pub returns-clause-one : goal.returns-clause-one
 returns-clause-one g c =
     let signs : Course g.row.D.Denot g.row.K.Denot g.D.Device g.K.Sink → Signs = λ x. signs_of x.roster.moves x.roster.coming (course_seen g.D.Device.model g.K.Sink.model x) in
-    ⊎_elim (λ rests. inl (ap signs rests.0)) (λ took. inr took.1.0.counts.taken) c.take_turn.ensures.turn
+    ⊎_elim (λ rests. inl (ap signs rests.0)) (λ took. inr took.1.counts.taken) c.take_turn.ensures.turn
