@@ -39,15 +39,15 @@ said_forward GoesOn = tt
 said_forward (Answers number reply) = tt
 said_forward (Drops why) = tt
 
-IsKeptBack : Outcome → Type 0
+abbrev IsKeptBack : Outcome → Type 0
 IsKeptBack (outcomes.Blocked by) = Unit {0}
 IsKeptBack other = ⊥
 
-IsOfSessions : Class → Type 0
+abbrev IsOfSessions : Class → Type 0
 IsOfSessions Sessions = Unit {0}
 IsOfSessions other = ⊥
 
-IsIdle : Turn → Type 0
+abbrev IsIdle : Turn → Type 0
 IsIdle turns.Idle = Unit {0}
 IsIdle other = ⊥
 
@@ -76,7 +76,7 @@ module _ (m : Machine) (actor : ℕ) (outcome : Outcome) (new : Machine) (says :
   flushed (inr (none, inl (page, oldest, inr fails))) = not_forward _ tt fails.says
   flushed (inr (none, inr (inl (old, inl turns)))) = not_forward outcomes.Helped tt turns.says
   flushed (inr (none, inr (inl (old, inr fails)))) = not_forward _ tt fails.says
-  flushed (inr (none, inr (inr (flushed, never)))) = never
+  flushed (inr (none, inr (inr (all, never)))) = never
 
   worked : Works m actor outcome new → ⊥
   worked (inl (by, way, so)) = not_kept by so.0
@@ -131,18 +131,19 @@ WhereOwn session answered line = line.session ≡ session → IsTrue (is_answere
 -- where none is next
 none_next : (session : ℕ) (answered : List Answered) (lines : List Line) → next_line session answered lines ≡ None → All (WhereOwn session answered) lines
 none_next session answered [] none = All-nil (WhereOwn session answered)
-none_next session answered (line ∷ rest) none = by ((line.session == session) && not (is_answered line.number answered)) refl none
+none_next session answered (line ∷ rest) none = by ((line.session == session) && not (is_answered line.number answered)) refl none (none_next session answered rest)
   where
-    by : (b : Bool) → ((line.session == session) && not (is_answered line.number answered)) ≡ b → cond b (Some line) (next_line session answered rest) ≡ None → All (WhereOwn session answered) (line ∷ rest)
-    by true test some = absurd (none-some line (sym some))
-    by false test none =
+    by : (b : Bool) → ((line.session == session) && not (is_answered line.number answered)) ≡ b → cond b (Some line) (next_line session answered rest) ≡ None → (next_line session answered rest ≡ None → All (WhereOwn session answered) rest)
+        → All (WhereOwn session answered) (line ∷ rest)
+    by true test some later = absurd (none-some line (sym some))
+    by false test none later =
         All-cons (WhereOwn session answered) line rest
         (λ own. not-false (is_answered line.number answered) (sym (ap (λ (b : Bool). b && not (is_answered line.number answered)) (eq-eqb line.session session own)) ∙ test))
-        (none_next session answered rest none)
+        (later none)
 
 -- So it is in each machine that a core shows, where it is in one.
 module _ (d : DiskModel) (c : RunningCore) (session : ℕ) (low : 1 ≤ session) (high : session ≤ 16) (found : Machine) (shows_found : ShowsMachine d c found) (nothing : FindsNothing found session) (m : Machine) (shows : ShowsMachine d c m) where
-  behind : ℕ
+  abbrev behind : ℕ
   behind = get_or c.behind (session - 1) 0
 
   there : slice_get c.behind (session - 1) ≡ Some behind
@@ -189,8 +190,8 @@ module _ (d : DiskModel) (c : RunningCore) (session : ℕ) (low : 1 ≤ session)
 
 pub no_line_left : (d e : DiskModel) (old new : RunningCore) (actor : ℕ) (outcome : Outcome) (turn : Turn) → ((m : Machine) × MayStep d old m) → ((m : Machine) → MayStep d old m → (next : Machine) × StepsTo m actor outcome next × ShowsMachine e new next)
     → IsActor actor → turn ≡ turn_of outcome → turn ≡ turns.Idle → actor ≤ 16 → (m : Machine) → ShowsMachine e new m → All (λ (line : Line). line.session ≡ actor → HasAnswer m line) m.lines
-no_line_left d e old new actor outcome turn (found, may) steps is turn_is idle le m shows =
+no_line_left d e old new actor outcome came (found, may) steps is turn_is said_idle le m shows =
     let step = steps found may in
-    let said = was_idle outcome (sym turn_is ∙ idle) in
+    let said = was_idle outcome (sym turn_is ∙ said_idle) in
     let nothing = ran found actor outcome step.0 said found.stop (may.goes_on.kept.classes actor ∙ session_class actor le) step.1 in
     all_answered e new actor is.from_1 le step.0 step.2 (subst (λ (x : Machine). FindsNothing x actor) (sym nothing.1) nothing.0) m shows

@@ -59,8 +59,7 @@ impl<D: Disk, K: Sink> Course<D, K> {
     /// actor does then, and who else has to look again.
     pub(crate) fn take_turn(&mut self, seat: &Seat) -> (Next, News)
         requires { MayTakeSteps (D.model (core_disk self.old.core)) (core_seen self.old.core) }
-        ensures turn {
-            ((self.new ≡ self.old) × Rests seat.now.actor self.old.roster.free self.old.roster.moves (course_seen D.model K.model self.old) result.0)
+        ensures turn { ((self.new ≡ self.old) × Rests seat.now.actor self.old.roster.free self.old.roster.moves (course_seen D.model K.model self.old) result.0)
             ⊎ Steps seat.now.actor self.old.roster.free self.new.roster.moves (course_seen D.model K.model self.old) (course_seen D.model K.model self.new) result.0 }
         ensures notes { (self.new ≡ self.old) ⊎ NotesNext (seat.now.actor - 1) result.0 self.old.roster.nexts self.new.roster.nexts }
         ensures coming { (self.new ≡ self.old) ⊎ (self.new.roster.coming ≡ anyone_comes self.new.roster.nexts self.new.roster.moves (course_seen D.model K.model self.new)) }

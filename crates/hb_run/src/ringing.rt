@@ -32,13 +32,7 @@ pub(crate) fn bell_of(pause: &Pause) -> Option<usize>
     ensures { result ≡ bell_of pause.now }
 {
     match pause {
-        Pause::Behind { place, .. } => {
-            if *place < ACTORS {
-                Some(*place)
-            } else {
-                None
-            }
-        }
+        Pause::Behind { place, .. } => { if *place < ACTORS { Some(*place) } else { None } }
         Pause::NoJob {
             kind: JobKind::Post,
         } => Some(POSTS),

@@ -56,5 +56,5 @@ returns-clause-turn g c =
 pub returns-clause-idle : goal.returns-clause-idle
 returns-clause-idle g c =
     λ idle le.
-        no_line_left (g.D.Device.model (core_disk c.args.self.now.core)) (g.D.Device.model (core_disk c.step-outcome.new.self)) (core_seen c.args.self.now.core) (core_seen c.step-outcome.new.self)
-        c.args.seat.now.actor c.step-outcome.result c.turn_of-turn.result c.requires c.step-outcome.ensures.steps c.args.seat.now.may c.turn_of-turn.ensures idle le
+    no_line_left (g.D.Device.model (core_disk c.args.self.now.core)) (g.D.Device.model (core_disk c.step-outcome.new.self)) (core_seen c.args.self.now.core) (core_seen c.step-outcome.new.self)
+    c.args.seat.now.actor c.step-outcome.result c.turn_of-turn.result c.requires c.step-outcome.ensures.steps c.args.seat.now.may c.turn_of-turn.ensures idle le

@@ -3,7 +3,7 @@ use Rattle.hb_core.specs.CoreSeen.{core_disk}
 use Rattle.hb_run.specs.CourseSeen.{course_seen}
 use Rattle.hb_run.specs.Courses.{KeepsRun}
 use Rattle.hb_run.specs.declared.courses.Course.{Course}
-use Rattle.hb_run.specs.Waiting.{Signs, signs_of}
+use Rattle.hb_run.specs.Waiting.{IsOneTurn, Signs, signs_of}
 use Rattle.hb_run.proofs.Going.{goes_on, may_turn}
 use Rattle.hb_run.proofs.shared.Shared.turn.Goals as goal
 
@@ -21,4 +21,5 @@ invariant_of-self g c =
 pub returns-clause-one : goal.returns-clause-one
 returns-clause-one g c =
     let signs : Course g.row.D.Denot g.row.K.Denot g.D.Device g.K.Sink → Signs = λ x. signs_of x.roster.moves x.roster.coming (course_seen g.D.Device.model g.K.Sink.model x) in
-    ⊎_elim (λ rests. inl (ap signs rests.0)) (λ took. inr took.1.counts.taken) c.take_turn.ensures.turn
+    let one : IsOneTurn (signs c.self.inside.course) (signs c.take_turn.new.self) = ⊎_elim (λ rests. inl (ap signs rests.0)) (λ took. inr took.1.counts.taken) c.take_turn.ensures.turn in
+    subst (λ (s : Signs). IsOneTurn s (signs c.take_turn.new.self)) c.self.view_is one
