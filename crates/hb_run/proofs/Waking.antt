@@ -5,7 +5,9 @@ use Rattle.std.proofs.lemmas.Bool.{false≢true, and_parts, or_right}
 use Rattle.hb_activity.specs.declared.jobs.JobKind.TheVariants.{Post, Merge}
 use Rattle.hb_lemmas.proofs.Booleans.{if_same}
 use Rattle.hb_run.specs.Courses.{Course}
-use Rattle.hb_run.specs.Turning.{CountsMove, IsNews, is_done, is_due, is_so, jobs_left, rings, round_of, settled_of, still_waits}
+use Rattle.hb_run.specs.Ringing.{IsNews, rings}
+use Rattle.hb_run.specs.Turning.{CountsMove, is_done, is_due, jobs_left, round_of, settled_of}
+use Rattle.hb_run.specs.Waiting.{is_so, signs_of, still_waits}
 use Rattle.hb_run.specs.declared.turns.News.{News}
 use Rattle.hb_run.specs.declared.turns.Pause.{Pause}
 use Rattle.hb_run.specs.declared.turns.Pause.TheVariants as pauses
@@ -45,7 +47,7 @@ place_came place round s t r q was_coming true was gone =
     (λ apart. refl))
     (λ apart. refl)
 
-module _ (mover : ℕ) (moved : Bool) (before after : List ℕ) (coming_before coming : Bool) (old new : Course) (news : News) (tells : IsNews mover moved (settled_of old.core) (round_of old.core) coming new news) (counts : CountsMove mover moved before after) where
+module _ (mover : ℕ) (moved : Bool) (before after : List ℕ) (coming_before coming : Bool) (old new : Course) (news : News) (tells : IsNews mover moved (settled_of old.core) (round_of old.core.taken) coming new news) (counts : CountsMove mover moved before after) where
   -- who waits behind an actor that changed something
   moved_on : (place count : ℕ) → is_so count (slice_get before place) ≡ true → is_so count (slice_get after place) ≡ false → (moved && (mover == place)) ≡ true
   moved_on place count was gone = by moved refl
@@ -57,7 +59,7 @@ module _ (mover : ℕ) (moved : Bool) (before after : List ℕ) (coming_before c
       by false is = absurd (same (ap (λ (l : List ℕ). slice_get l place) (counts.still is)))
       by true is = if_same mover place (λ b. b ≡ true) (λ here. refl) (λ apart. absurd (same (counts.others place (λ here. apart (sym here)))))
 
-  pub wakes_all : (pause : Pause) → still_waits pause before coming_before old ≡ true → still_waits pause after coming new ≡ false → rings news pause ≡ true
+  pub wakes_all : (pause : Pause) → still_waits pause (signs_of before coming_before old) ≡ true → still_waits pause (signs_of after coming new) ≡ false → rings news pause ≡ true
   wakes_all (pauses.Behind place count) was gone =
       rung news.stopped (news.moved && (news.place == place)) (λ runs.
       ap (λ (b : Bool). b && (news.place == place)) tells.moved_is
@@ -70,6 +72,6 @@ module _ (mover : ℕ) (moved : Bool) (before after : List ℕ) (coming_before c
   wakes_all pauses.NotDue was gone =
       rung news.stopped news.flushes (λ runs. tells.flushes ∙ due_came (new.left == 0) (is_due new.core) (come (is_some new.core.stop) (not (new.left == 0) && not (is_due new.core)) gone (sym tells.stopped ∙ runs)))
   wakes_all (pauses.Unsettled place round) was gone =
-      rung news.stopped news.settles (λ runs. tells.settles ∙ place_came place round (settled_of old.core) (settled_of new.core) (round_of old.core) (round_of new.core) coming_before coming
-      (and_parts (not (is_some old.core.stop)) ((not (nat_lt place (settled_of old.core)) && (round_of old.core == round)) && coming_before) was).1
-      (come (is_some new.core.stop) ((not (nat_lt place (settled_of new.core)) && (round_of new.core == round)) && coming) gone (sym tells.stopped ∙ runs)))
+      rung news.stopped news.settles (λ runs. tells.settles ∙ place_came place round (settled_of old.core) (settled_of new.core) (round_of old.core.taken) (round_of new.core.taken) coming_before coming
+      (and_parts (not (is_some old.core.stop)) ((not (nat_lt place (settled_of old.core)) && (round_of old.core.taken == round)) && coming_before) was).1
+      (come (is_some new.core.stop) ((not (nat_lt place (settled_of new.core)) && (round_of new.core.taken == round)) && coming) gone (sym tells.stopped ∙ runs)))

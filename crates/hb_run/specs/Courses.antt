@@ -12,6 +12,7 @@ use Rattle.hb_steps.specs.Performing.{given_by}
 use Rattle.hb_core.specs.Runs.{HasRun, left_count}
 use Rattle.hb_core.specs.Showing.{RunningCore, ShowsMachine}
 use Rattle.hb_steps.specs.Steps.{StepsTo}
+use Rattle.hb_core.specs.Counting.{CountsStep}
 use Rattle.hb_core.specs.Touching.{Touches}
 use Rattle.hb_core.specs.Relied.{MayTakeSteps}
 use Rattle.hb_core.specs.Working.{MayStep}
@@ -48,6 +49,7 @@ pub record KeepsRun (b : Beginning) (c : Course) : Type 0 where
 pub record TakesTurn (actor : ℕ) (outcome : Outcome) (old new : Course) : Type 0 where
   pub steps : (m : Machine) → MayStep old.disk old.core m → (next : Machine) × StepsTo m actor outcome next × ShowsMachine new.disk new.core next
   pub touches : Touches old.disk old.core outcome new.disk new.core
+  pub counts : CountsStep actor old.core new.core
   pub at : ℕ
   pub clock : IsSome new.disk.told → at ≡ new.disk.clock
   pub answers : new.answers ≡ old.answers ++ given_by outcome at

@@ -1,5 +1,8 @@
 pub mod Beginnings
 pub mod Courses
 pub mod CourseSeen
-pub mod Turning
+pub mod Ringing
 pub mod Running
+pub mod Seats
+pub mod Turning
+pub mod Waiting

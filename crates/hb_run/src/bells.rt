@@ -1,108 +1,69 @@
 //! The bells by which threads that wait are woken.
 ghost use Rattle.std.specs.Prelude.{◌≡◌, IfOk, vec_len};
+ghost use Rattle.hb_run.specs.declared.ringing.TheConstants.{BELLS};
 
+use crate::ringing::{ANY, BELLS, bell_of, is_rung};
 use crate::turns::{News, Pause};
-use hb_activity::JobKind;
 use hb_space::NoMemory;
-use hb_space::actors::ACTORS;
 use std::alloc::Global;
 use std::sync::Condvar;
 
-/// A bell for each thing that an actor waits for, all beside the one lock.
+/// A bell for each thing that an actor waits for, all beside the one lock, at the places that `bell_of` says.
 #[derive(Drop)]
 pub(crate) struct Bells {
-    /// For those who wait behind an actor, actor 1 first.
-    moved: Vec<Condvar>,
-    posts: Condvar,
-    merges: Condvar,
-    flushes: Condvar,
-    /// For those who let others come first.
-    settles: Condvar,
-    /// For a thread that does several actors' turns. It is rung with each other bell.
-    any: Condvar,
+    bells: Vec<Condvar>,
+    ghost all: { vec_len bells ≡ BELLS },
 }
 
 impl Bells {
     /// The bells of a run.
     pub(crate) fn new(alloc: Global) -> Result<Bells, NoMemory> {
-        let mut moved = Vec::with_capacity(alloc, ACTORS)?;
-        for _ in 0..ACTORS {
-            moved.push(Condvar::new())?;
-        }
-        Ok(Bells {
-            moved,
-            posts: Condvar::new(),
-            merges: Condvar::new(),
-            flushes: Condvar::new(),
-            settles: Condvar::new(),
-            any: Condvar::new(),
-        })
+        let bells = silent(alloc)?;
+        Ok(Bells { bells })
     }
 
     /// The bell of what is waited for. Behind nobody there is none.
     pub(crate) fn of(&self, pause: &Pause) -> Option<&Condvar> {
-        match pause {
-            Pause::Behind { place, .. } => self.moved.get(*place),
-            Pause::NoJob {
-                kind: JobKind::Post,
-            } => Some(&self.posts),
-            Pause::NoJob {
-                kind: JobKind::Merge,
-            } => Some(&self.merges),
-            Pause::NotDue => Some(&self.flushes),
-            Pause::Unsettled { .. } => Some(&self.settles),
-        }
+        let place = bell_of(pause)?;
+        self.bells.get(place)
     }
 
     /// The bell of a thread that does several actors' turns.
     pub(crate) fn any(&self) -> &Condvar {
-        &self.any
+        &self.bells[ANY]
     }
 
-    /// Rings for all that a turn brought. A bell for which nobody waits costs no call of the system.
+    /// Rings for all that a turn brought: each bell that `is_rung` names. A bell for which nobody waits costs no call of the system.
     pub(crate) fn ring(&self, news: News) {
-        let News {
-            place,
-            moved,
-            stopped,
-            posts,
-            merges,
-            flushes,
-            settles,
-        } = news;
-        if stopped {
-            self.ring_all();
-            return;
-        }
-        if moved {
-            if let Some(bell) = self.moved.get(place) {
+        for (place, bell) in self.bells.as_slice().iter().enumerate() {
+            if is_rung(&news, place) {
                 bell.notify_all();
             }
         }
-        if posts {
-            self.posts.notify_all();
-        }
-        if merges {
-            self.merges.notify_all();
-        }
-        if flushes {
-            self.flushes.notify_all();
-        }
-        if settles {
-            self.settles.notify_all();
-        }
-        self.any.notify_all();
+        forget(news);
     }
+}
 
-    /// Rings every bell.
-    fn ring_all(&self) {
-        for bell in self.moved.as_slice() {
-            bell.notify_all();
-        }
-        self.posts.notify_all();
-        self.merges.notify_all();
-        self.flushes.notify_all();
-        self.settles.notify_all();
-        self.any.notify_all();
+/// So many bells, for which nobody waits.
+fn silent(alloc: Global) -> Result<Vec<Condvar>, NoMemory>
+    ensures { IfOk result (λ bells. vec_len bells ≡ BELLS) }
+{
+    let mut bells = Vec::with_capacity(alloc, BELLS)?;
+    for _ in 0..BELLS {
+        bells.push(Condvar::new())?;
     }
+    Ok(bells)
+}
+
+/// News for which was rung.
+fn forget(news: News) {
+    let News {
+        place: _,
+        moved: _,
+        stopped: _,
+        posts: _,
+        merges: _,
+        flushes: _,
+        settles: _,
+    } = news;
 }

@@ -1,14 +1,17 @@
 //! A run so far, and its next step.
-ghost use Rattle.std.specs.Prelude.{◌≡◌, ◌≢◌, ◌⊎◌, ◌≤◌, ℕ, ◌+◌, ◌-◌, ◌==◌, ◌||◌, ◌&&◌, nat_lt, not, true, false, is_some, length, vec_len, vec_capacity};
+ghost use Rattle.std.specs.Prelude.{◌≡◌, ◌≢◌, ◌⊎◌, ◌≤◌, ℕ, ◌+◌, ◌-◌, ◌==◌, ◌||◌, ◌&&◌, nat_lt, not, true, false, Some, None, is_some, length, vec_len, vec_capacity};
 ghost use Rattle.std.specs.List.{slice_get};
 ghost use Rattle.hb_core.specs.CoreSeen.{core_seen, core_disk};
 ghost use Rattle.hb_steps.specs.declared.outcomes.Outcome.{Outcome};
 ghost use Rattle.hb_steps.specs.Performing.{given_by};
+ghost use Rattle.hb_steps.specs.ProgressLaws.{worker_for};
 ghost use Rattle.hb_core.specs.Relied.{MayTakeSteps};
-ghost use Rattle.hb_space.specs.declared.actors.TheConstants.{FLUSHER};
+ghost use Rattle.hb_space.specs.declared.actors.TheConstants.{FLUSHER, SESSIONS};
 ghost use Rattle.hb_run.specs.Courses.{ShowsLeft, TakesTurn};
 ghost use Rattle.hb_run.specs.declared.turns.Turn.TheVariants as turns;
-ghost use Rattle.hb_run.specs.Turning.{CountsMove, GoesWell, IsNews, WakesAll, is_done, is_due, is_more, is_so, jobs_left, round_of, settled_of, still_waits, turn_of};
+ghost use Rattle.hb_run.specs.Ringing.{IsNews, WakesAll};
+ghost use Rattle.hb_run.specs.Turning.{CountsMove, is_done, is_due, is_more, jobs_left, round_of, settled_of, turn_of};
+ghost use Rattle.hb_run.specs.Waiting.{GoesWell, HasNoLineLeft, NotesNext, Rests, Steps, anyone_comes, comes, is_so, may_flush, signs_of, still_waits};
 
 use crate::rosters::Roster;
 use crate::seats::Seat;
@@ -20,6 +23,7 @@ use hb_disk::Disk;
 use hb_drive::take_answer;
 use hb_outside::{Failed, Sink};
 use hb_set::Answered;
+use hb_space::Actor;
 use hb_space::actors::{CONSOLIDATOR, FLUSHER, POSTER};
 
 /// So many turns are a round.
@@ -55,9 +59,12 @@ impl<D: Disk, K: Sink> Course<D, K> {
     /// actor does then, and who else has to look again.
     pub(crate) fn take_turn(&mut self, seat: &Seat) -> (Next, News)
         requires { MayTakeSteps (D.model (core_disk self.old.core)) (core_seen self.old.core) }
-        ensures turn { (self.new ≡ self.old) ⊎ ((outcome : Outcome) × TakesTurn seat.now.actor outcome (course_seen D.model K.model self.old) (course_seen D.model K.model self.new)) }
-        ensures next { GoesWell seat.now.actor result.0 self.new.roster.moves (course_seen D.model K.model self.new) }
-        ensures wakes { WakesAll result.1 self.old.roster (course_seen D.model K.model self.old) self.new.roster (course_seen D.model K.model self.new) }
+        ensures turn { ((self.new ≡ self.old) × Rests seat.now.actor self.old.roster.free self.old.roster.moves (course_seen D.model K.model self.old) result.0)
+            ⊎ Steps seat.now.actor self.old.roster.free self.new.roster.moves (course_seen D.model K.model self.old) (course_seen D.model K.model self.new) result.0 }
+        ensures notes { (self.new ≡ self.old) ⊎ NotesNext (seat.now.actor - 1) result.0 self.old.roster.nexts self.new.roster.nexts }
+        ensures coming { (self.new ≡ self.old) ⊎ (self.new.roster.coming ≡ anyone_comes self.new.roster.nexts self.new.roster.moves (course_seen D.model K.model self.new)) }
+        ensures free { self.new.roster.free ≡ self.old.roster.free }
+        ensures wakes { WakesAll result.1 (signs_of self.old.roster.moves self.old.roster.coming (course_seen D.model K.model self.old)) (signs_of self.new.roster.moves self.new.roster.coming (course_seen D.model K.model self.new)) }
     {
         let before = self.mark();
         if seat.actor == FLUSHER && !self.may_flush() {
@@ -68,17 +75,21 @@ impl<D: Disk, K: Sink> Course<D, K> {
         let effects = self.core.order().len();
         let turn = self.turn(seat);
         let next = self.next(seat, &turn, effects);
-        self.roster.note(seat.actor, next);
+        self.roster.note(seat, next);
         self.roster.coming = self.anyone_comes();
         let news = self.news(seat, is_move(&turn), &before);
         (next, news)
     }
 
     /// One step of the core. The answer that it gives is kept with the clock after it, and its lines are put unless a put failed before.
+    /// A session that finds nothing to do has no line left.
     pub(crate) fn turn(&mut self, seat: &Seat) -> Turn
         requires { MayTakeSteps (D.model (core_disk self.old.core)) (core_seen self.old.core) }
         ensures turn { (outcome : Outcome) × TakesTurn seat.now.actor outcome (course_seen D.model K.model self.old) (course_seen D.model K.model self.new) × (result ≡ turn_of outcome) }
+        ensures idle { result ≡ turns.Idle → seat.now.actor ≤ SESSIONS → HasNoLineLeft seat.now.actor (course_seen D.model K.model self.new) }
         ensures counts { CountsMove (seat.now.actor - 1) (is_more result) self.old.roster.moves self.new.roster.moves }
+        ensures nexts { self.new.roster.nexts ≡ self.old.roster.nexts }
+        ensures free { self.new.roster.free ≡ self.old.roster.free }
         ensures another { result ≡ turns.More → slice_get self.new.roster.moves (seat.now.actor - 1) ≢ slice_get self.old.roster.moves (seat.now.actor - 1) }
     {
         runs_go_on();
@@ -91,72 +102,87 @@ impl<D: Disk, K: Sink> Course<D, K> {
         turn
     }
 
-    /// What an actor does after its turn, before which so many lines had taken effect. A session without a line ends. A worker without a
-    /// job waits for one, and ends where all is done.
+    /// What an actor does after its turn, before which so many lines had taken effect.
     fn next(&self, seat: &Seat, turn: &Turn, effects: usize) -> Next
-        ensures { GoesWell seat.now.actor result self.now.roster.moves (course_seen D.model K.model self.now) }
+        requires { turn.now ≡ turns.Idle → seat.now.actor ≤ SESSIONS → HasNoLineLeft seat.now.actor (course_seen D.model K.model self.now) }
+        ensures { GoesWell seat.now.actor effects self.now.roster.free self.now.roster.moves (course_seen D.model K.model self.now) (Some turn.now) result }
     {
         if self.is_stopped() {
             return Next::Ends;
         }
-        if !matches!(turn, Turn::Idle) {
-            return self.next_of_busy(turn, effects);
+        match turn {
+            Turn::Idle => self.next_of_idle(seat),
+            Turn::Blocked { by } => self.next_of_blocked(*by),
+            Turn::More => self.next_of_busy(effects),
+            Turn::Stopped => Next::Goes,
         }
-        let kind = match seat.actor {
-            POSTER => JobKind::Post,
-            CONSOLIDATOR => JobKind::Merge,
-            FLUSHER => return Next::Goes,
-            _ => return Next::Ends,
-        };
+    }
+
+    /// What an actor does next that found nothing to do. A session ends. A worker waits for a job, and ends where all is done.
+    fn next_of_idle(&self, seat: &Seat) -> Next
+        requires runs { is_some (core_seen self.now.core).stop ≡ false }
+        requires none { seat.now.actor ≤ SESSIONS → HasNoLineLeft seat.now.actor (course_seen D.model K.model self.now) }
+        ensures { (effects : ℕ) → GoesWell seat.now.actor effects self.now.roster.free self.now.roster.moves (course_seen D.model K.model self.now) (Some turns.Idle) result }
+    {
+        match seat.actor {
+            POSTER => self.next_of_worker(&JobKind::Post),
+            CONSOLIDATOR => self.next_of_worker(&JobKind::Merge),
+            FLUSHER => Next::Goes,
+            _ => Next::Ends,
+        }
+    }
+
+    /// What who works off the jobs of the kind does next, without one.
+    fn next_of_worker(&self, kind: &JobKind) -> Next
+        requires { is_some (core_seen self.now.core).stop ≡ false }
+        ensures { (effects : ℕ) → GoesWell (worker_for kind.now) effects self.now.roster.free self.now.roster.moves (course_seen D.model K.model self.now) (Some turns.Idle) result }
+    {
         if self.is_done() {
             return Next::Ends;
         }
-        if self.jobs_left(&kind) > 0 {
-            return Next::Goes;
+        if self.jobs_left(kind) == 0 {
+            return Next::Waits(Pause::NoJob { kind: *kind });
         }
-        Next::Waits(Pause::NoJob { kind })
+        Next::Goes
     }
 
-    /// What an actor does next that has a line or a job. One that is blocked waits behind who is in the way. One whose line took effect in
-    /// its turn, and isn't settled, lets others come first, so that one force settles the lines of all; but not where actors may be held
-    /// between their turns.
-    fn next_of_busy(&self, turn: &Turn, effects: usize) -> Next
+    /// What an actor does next that this one kept back: it waits behind that.
+    fn next_of_blocked(&self, by: Actor) -> Next
         requires { is_some (core_seen self.now.core).stop ≡ false }
-        ensures { (actor : ℕ) → GoesWell actor result self.now.roster.moves (course_seen D.model K.model self.now) }
+        ensures { (actor effects : ℕ) → GoesWell actor effects self.now.roster.free self.now.roster.moves (course_seen D.model K.model self.now) (Some (turns.Blocked by)) result }
     {
-        match turn {
-            Turn::Blocked { by } => {
-                let place = usize::from(*by).wrapping_sub(1);
-                match self.roster.moves.get(place) {
-                    Some(moves) => Next::Waits(Pause::Behind {
-                        place,
-                        moves: *moves,
-                    }),
-                    None => Next::Goes,
-                }
-            }
-            Turn::More => {
-                let pause = Pause::Unsettled {
-                    place: effects,
-                    round: self.mark().round,
-                };
-                if self.roster.free
-                    && self.core.order().len() > effects
-                    && self.hasnt_come(&pause)
-                {
-                    Next::Waits(pause)
-                } else {
-                    Next::Goes
-                }
-            }
-            _ => Next::Goes,
+        let Some(place) = usize::from(by).checked_sub(1) else {
+            return Next::Goes;
+        };
+        match self.roster.moves.get(place) {
+            Some(moves) => Next::Waits(Pause::Behind {
+                place,
+                moves: *moves,
+            }),
+            None => Next::Goes,
         }
+    }
+
+    /// What an actor does next that did something. One whose line took effect in its turn, and isn't settled, lets others come first, so that
+    /// one force settles the lines of all; but not where actors may be held between their turns.
+    fn next_of_busy(&self, effects: usize) -> Next
+        requires { is_some (core_seen self.now.core).stop ≡ false }
+        ensures { (actor : ℕ) → GoesWell actor effects self.now.roster.free self.now.roster.moves (course_seen D.model K.model self.now) (Some turns.More) result }
+    {
+        let pause = Pause::Unsettled {
+            place: effects,
+            round: self.mark().round,
+        };
+        if self.roster.free && self.core.order().len() > effects && self.hasnt_come(&pause) {
+            return Next::Waits(pause);
+        }
+        Next::Goes
     }
 
     /// How far the run is.
     fn mark(&self) -> Mark
         ensures settled { result.settled ≡ settled_of (core_seen self.now.core) }
-        ensures round { result.round ≡ round_of (core_seen self.now.core) }
+        ensures round { result.round ≡ round_of (core_seen self.now.core).taken }
     {
         Mark {
             settled: self.core.settled(),
@@ -164,26 +190,35 @@ impl<D: Disk, K: Sink> Course<D, K> {
         }
     }
 
-    /// Whether a session takes a further turn, though it waits for nothing or what it waited for has come.
-    fn anyone_comes(&self) -> bool {
-        self.roster.nexts.iter().any(|next| match next {
+    /// Whether a session takes a further turn before something comes.
+    fn anyone_comes(&self) -> bool
+        ensures { result ≡ anyone_comes self.now.roster.nexts self.now.roster.moves (course_seen D.model K.model self.now) }
+    {
+        self.roster.nexts.iter().any(|next| self.comes(next))
+    }
+
+    /// Whether one who does so next takes a further turn before something comes: it waits for nothing, or what it waited for has come.
+    fn comes(&self, next: &Next) -> bool
+        ensures { result ≡ comes self.now.roster.moves (course_seen D.model K.model self.now) next.now }
+    {
+        match next {
             Next::Goes => true,
             Next::Waits(pause) => !self.hasnt_come(pause),
             Next::Ends => false,
-        })
+        }
     }
 
     /// Whether it is time to flush, or the core is stopped.
     fn may_flush(&self) -> bool
-        ensures { result ≡ (is_some (core_seen self.now.core).stop || (not (self.now.left == 0) && is_due (core_seen self.now.core))) }
+        ensures { result ≡ may_flush (course_seen D.model K.model self.now) }
     {
         self.is_stopped() || (self.left != 0 && self.core.flush_due())
     }
 
     /// What who flushes does while it may not.
     fn rest(&self) -> Next
-        requires { (is_some (core_seen self.now.core).stop || (not (self.now.left == 0) && is_due (core_seen self.now.core))) ≡ false }
-        ensures { GoesWell FLUSHER result self.now.roster.moves (course_seen D.model K.model self.now) }
+        requires { may_flush (course_seen D.model K.model self.now) ≡ false }
+        ensures { (effects : ℕ) → GoesWell FLUSHER effects self.now.roster.free self.now.roster.moves (course_seen D.model K.model self.now) None result }
     {
         if self.left == 0 {
             return Next::Ends;
@@ -212,14 +247,14 @@ impl<D: Disk, K: Sink> Course<D, K> {
 
     /// Whether what is waited for hasn't come.
     pub(crate) fn still_waits(&self, pause: &Pause) -> bool
-        ensures { result ≡ still_waits pause.now self.now.roster.moves self.now.roster.coming (course_seen D.model K.model self.now) }
+        ensures { result ≡ still_waits pause.now (signs_of self.now.roster.moves self.now.roster.coming (course_seen D.model K.model self.now)) }
     {
         self.hasnt_come(pause) && (self.roster.coming || !matches!(pause, Pause::Unsettled { .. }))
     }
 
     /// The same, but for who lets others come first, as if somebody came.
     fn hasnt_come(&self, pause: &Pause) -> bool
-        ensures { result ≡ still_waits pause.now self.now.roster.moves true (course_seen D.model K.model self.now) }
+        ensures { result ≡ still_waits pause.now (signs_of self.now.roster.moves true (course_seen D.model K.model self.now)) }
     {
         if self.is_stopped() {
             return false;
@@ -234,7 +269,7 @@ impl<D: Disk, K: Sink> Course<D, K> {
 
     /// Whether the place of the order isn't settled, in the same round of turns.
     fn is_unsettled(&self, place: usize, round: u64) -> bool
-        ensures { result ≡ (not (nat_lt place (settled_of (core_seen self.now.core))) && (round_of (core_seen self.now.core) == round)) }
+        ensures { result ≡ (not (nat_lt place (settled_of (core_seen self.now.core))) && (round_of (core_seen self.now.core).taken == round)) }
     {
         let now = self.mark();
         place >= now.settled as usize && now.round == round

@@ -5,16 +5,21 @@
 //! gives back such a run, with nothing left to do unless the core is stopped. `specs/Running.antt` says so.
 #![tactic(auto)]
 
-ghost use Rattle.std.specs.Prelude.{◌≡◌, ◌≤◌, [], IfOk, length, vec_capacity};
+ghost use Rattle.std.specs.Prelude.{◌≡◌, ◌≤◌, [], IfOk, length, map, vec_capacity};
 ghost use Rattle.hb_core.specs.CoreSeen.{core_seen, core_disk};
 ghost use Rattle.hb_core.specs.Relied.{MayTakeSteps};
 ghost use Rattle.hb_drive.specs.Driving.{LeavesRun};
+ghost use Rattle.hb_space.specs.declared.actors.TheConstants.{SESSIONS};
 ghost use Rattle.hb_run.specs.Running.{RunsTo};
+ghost use Rattle.hb_run.specs.Seats.{AreSessionsTo};
 
 mod begun;
 mod bells;
 mod courses;
+mod crews;
 mod gates;
+mod holds;
+mod ringing;
 mod rosters;
 mod seats;
 mod shared;
@@ -85,6 +90,7 @@ fn room_for(
     ensures answers { IfOk result (λ r. length script.now.lines ≤ vec_capacity r.0) }
     ensures none { IfOk result (λ r. r.1.items ≡ []) }
     ensures numbers { IfOk result (λ r. length script.now.lines ≤ vec_capacity r.1) }
+    ensures sessions { IfOk result (λ r. AreSessionsTo SESSIONS script.now.lines (map (λ s. s.actor) r.2.items)) }
 {
     let lines = script.lines.as_slice();
     let answered = Vec::with_capacity(alloc, lines.len())?;

@@ -1,9 +1,11 @@
 //! Who takes turns.
+ghost use Rattle.std.specs.Prelude.{◌≡◌, ◌++◌, [], ◌∷◌, if◌then◌else◌, IfOk, OnOk, map};
 ghost use Rattle.hb_space.specs.Actors.{IsActor};
+ghost use Rattle.hb_space.specs.declared.actors.TheConstants.{SESSIONS};
+ghost use Rattle.hb_run.specs.Seats.{AreSessionsTo, has_line};
 
-use crate::turns::Next;
 use hb_set::Line;
-use hb_space::actors::{CONSOLIDATOR, FLUSHER, POSTER, SESSIONS};
+use hb_space::actors::SESSIONS;
 use hb_space::{Actor, NoMemory};
 use std::alloc::Global;
 
@@ -18,59 +20,39 @@ impl Seat {
     /// The seat of the actor.
     pub(crate) fn of(actor: Actor) -> Seat
         requires { IsActor actor }
+        ensures { result.actor ≡ actor }
     {
         Seat { actor }
     }
 }
 
-/// The sessions that have a line.
-pub(crate) fn sessions_of(alloc: Global, lines: &[Line]) -> Result<Vec<Seat>, NoMemory> {
+/// The sessions that have a line, each once.
+#[tactic(auto, using(crate::proofs::Sitting::sits, crate::proofs::Sitting::none_yet))]
+pub(crate) fn sessions_of(alloc: Global, lines: &[Line]) -> Result<Vec<Seat>, NoMemory>
+    ensures { IfOk result (λ seats. AreSessionsTo SESSIONS lines.now (map (λ s. s.actor) seats.items)) }
+{
     let mut seats = Vec::new(alloc);
-    for session in 1..=SESSIONS {
-        if lines.iter().any(|line| line.session == session) {
-            seats.push(Seat::of(session))?;
-        }
+    for before in 0..SESSIONS {
+        sit_down(&mut seats, before + 1, lines)?;
     }
     Ok(seats)
 }
 
-/// A worker, and what it does next in the thread of the caller. One that has a thread of its own has ended there.
-#[derive(Drop)]
-pub(crate) struct Hand {
-    pub(crate) seat: Seat,
-    pub(crate) next: Next,
+/// Gives the session a seat behind the others, where it has a line.
+fn sit_down(seats: &mut Vec<Seat>, session: Actor, lines: &[Line]) -> Result<(), NoMemory>
+    requires { IsActor session }
+    ensures { OnOk result (map (λ s. s.actor) seats.new.items ≡ (if has_line lines.now session then map (λ s. s.actor) seats.old.items ++ session ∷ [] else map (λ s. s.actor) seats.old.items)) }
+{
+    if !has_line(lines, session) {
+        return Ok(());
+    }
+    seats.push(Seat::of(session))?;
+    Ok(())
 }
 
-/// The workers, whose turns the caller takes where no thread could be made for them.
-#[derive(Drop)]
-pub(crate) struct Crew {
-    pub(crate) hands: [Hand; 3],
-}
-
-impl Crew {
-    /// Who posts, who merges and who flushes, as far as they were refused.
-    pub(crate) fn of(poster: bool, consolidator: bool, flusher: bool) -> Crew {
-        Crew {
-            hands: [
-                hand_for(Seat::of(POSTER), poster),
-                hand_for(Seat::of(CONSOLIDATOR), consolidator),
-                hand_for(Seat::of(FLUSHER), flusher),
-            ],
-        }
-    }
-
-    /// Whether all have ended.
-    pub(crate) fn has_ended(&self) -> bool {
-        self.hands
-            .iter()
-            .all(|hand| matches!(hand.next, Next::Ends))
-    }
-}
-
-/// A worker that begins, where it was refused.
-fn hand_for(seat: Seat, refused: bool) -> Hand {
-    Hand {
-        seat,
-        next: if refused { Next::Goes } else { Next::Ends },
-    }
+/// Whether the session has a line.
+fn has_line(lines: &[Line], session: Actor) -> bool
+    ensures { result ≡ has_line lines.now session }
+{
+    lines.iter().any(|line| line.session == session)
 }

@@ -1,20 +1,24 @@
 //! The threads of a run: each session with a line has one, and so have who posts, who merges and who flushes.
+ghost use Rattle.std.specs.Prelude.{◌≡◌, ◌&&◌, true};
 ghost use Rattle.hb_run.specs.CourseSeen.{course_seen};
 ghost use Rattle.hb_run.specs.Courses.{KeepsRun};
 ghost use Rattle.hb_run.specs.Running.{TurnsAreOver};
+ghost use Rattle.hb_run.specs.Waiting.{has_ended, takes_none};
 
 use crate::begun::Begun;
 use crate::bells::Bells;
 use crate::courses::Course;
+use crate::crews::{Crew, Hand};
 use crate::gates::{Gate, Place};
-use crate::seats::{Crew, Seat};
+use crate::holds::Hold;
+use crate::seats::Seat;
 use crate::shared::Shared;
 use crate::turns::{Next, Pause};
 use hb_core::run_laws::runs_go_on;
 use hb_disk::Disk;
 use hb_outside::Sink;
 use hb_space::actors::{CONSOLIDATOR, FLUSHER, POSTER, SESSIONS};
-use std::sync::{Mutex, MutexGuard, Wait};
+use std::sync::{Mutex, Wait};
 use std::thread;
 use std::thread::Threads;
 
@@ -44,9 +48,7 @@ impl<R: Wait, N: Begun, D: Disk, K: Sink, G: Gate> Hall<'_, R, N, D, K, G> {
 
     /// A turn under one hold of the lock, or a look that takes none. Whoever it is news for is rung with the lock let go.
     fn turn(&self, seat: &Seat) -> Next {
-        let mut held = self.lock.lock(self.rt);
-        let (next, news) = held.turn(seat);
-        drop(held);
+        let (next, news) = Hold::take(self.rt, self.lock).turn(seat).let_go();
         self.bells.ring(news);
         next
     }
@@ -61,41 +63,48 @@ impl<R: Wait, N: Begun, D: Disk, K: Sink, G: Gate> Hall<'_, R, N, D, K, G> {
         drop(held);
     }
 
-    /// All turns of the workers for whom no thread could be made, one of each in turn.
-    fn work_for(&self, crew: &mut Crew) {
-        self.start(crew);
+    /// All turns of the workers for whom no thread could be made, one of each in turn. It returns once all of them have ended.
+    fn work_for(&self, crew: &mut Crew)
+        ensures poster { has_ended crew.new.poster.next ≡ true }
+        ensures consolidator { has_ended crew.new.consolidator.next ≡ true }
+        ensures flusher { has_ended crew.new.flusher.next ≡ true }
+    {
+        self.start(&crew.poster);
+        self.start(&crew.consolidator);
+        self.start(&crew.flusher);
         for _ in self.rt.forever() {
             if crew.has_ended() {
                 return;
             }
-            self.turn_each(crew);
+            self.go_on(&mut crew.poster);
+            self.go_on(&mut crew.consolidator);
+            self.go_on(&mut crew.flusher);
             self.wait_for_any(crew);
         }
+        unreachable!()
     }
 
-    /// Those of the crew begin that were refused.
-    fn start(&self, crew: &Crew) {
-        for hand in &crew.hands {
-            if !matches!(hand.next, Next::Ends) {
-                self.gate.at(hand.seat.actor, Place::Start);
-            }
+    /// One of the crew begins, where it was refused.
+    fn start(&self, hand: &Hand) {
+        if !hand.has_ended() {
+            self.gate.at(hand.seat.actor, Place::Start);
         }
     }
 
-    /// A turn of each that hasn't ended.
-    fn turn_each(&self, crew: &mut Crew) {
-        for hand in &mut crew.hands {
-            if matches!(hand.next, Next::Ends) {
-                continue;
-            }
-            hand.next = self.turn(&hand.seat);
-            let place = if matches!(hand.next, Next::Ends) {
-                Place::End
-            } else {
-                Place::Between
-            };
-            self.gate.at(hand.seat.actor, place);
+    /// A turn of one of the crew, unless it has ended.
+    fn go_on(&self, hand: &mut Hand)
+        ensures { hand.new.seat.actor ≡ hand.old.seat.actor }
+    {
+        if hand.has_ended() {
+            return;
         }
+        hand.next = self.turn(&hand.seat);
+        let place = if hand.has_ended() {
+            Place::End
+        } else {
+            Place::Between
+        };
+        self.gate.at(hand.seat.actor, place);
     }
 
     /// Waits while all of them wait.
@@ -112,13 +121,24 @@ impl<R: Wait, N: Begun, D: Disk, K: Sink, G: Gate> Hall<'_, R, N, D, K, G> {
     }
 }
 
-/// Whether each of the crew that hasn't ended waits.
-fn all_wait<N: Begun, D: Disk, K: Sink>(shared: &Shared<N, D, K>, crew: &Crew) -> bool {
-    crew.hands.iter().all(|hand| match &hand.next {
+/// Whether each of the crew has ended or waits.
+fn all_wait<N: Begun, D: Disk, K: Sink>(shared: &Shared<N, D, K>, crew: &Crew) -> bool
+    ensures { result ≡ (takes_none shared.now crew.now.poster.next && takes_none shared.now crew.now.consolidator.next && takes_none shared.now crew.now.flusher.next) }
+{
+    takes_none(shared, &crew.poster.next)
+        && takes_none(shared, &crew.consolidator.next)
+        && takes_none(shared, &crew.flusher.next)
+}
+
+/// Whether one that does so next takes no turn for now.
+fn takes_none<N: Begun, D: Disk, K: Sink>(shared: &Shared<N, D, K>, next: &Next) -> bool
+    ensures { result ≡ takes_none shared.now next.now }
+{
+    match next {
         Next::Goes => false,
         Next::Waits(pause) => shared.still_waits(pause),
         Next::Ends => true,
-    })
+    }
 }
 
 /// All turns of these sessions, each in a thread where one can be made.
@@ -150,7 +170,7 @@ fn work_all<
         let consolidator = scope.spawn(move || hall.work(&Seat::of(CONSOLIDATOR)));
         let flusher = scope.spawn(move || hall.work(&Seat::of(FLUSHER)));
         work_sessions(rt, hall, sessions);
-        let mut crew = Crew::of(poster.is_err(), consolidator.is_err(), flusher.is_err());
+        let mut crew = Crew::of(&poster, &consolidator, &flusher);
         hall.work_for(&mut crew);
     });
 }

@@ -1,8 +1,9 @@
 use Rattle.std.proofs.Common.{arith, ◌-◌}
 use Rattle.std.specs.Vec.{vec_capacity}
-use Rattle.hb_core.specs.CoreSeen.{core_disk}
+use Rattle.hb_core.specs.CoreSeen.{core_seen, core_disk}
 use Rattle.hb_steps.specs.Performing.{given_by}
 use Rattle.hb_run.proofs.Going.{leaves_lines, less_left, room_on}
+use Rattle.hb_run.proofs.Idle.{no_line_left}
 use Rattle.hb_run.proofs.courses.Course.turn.Goals as goal
 
 pub overflow_sub-self : goal.overflow_sub-self
@@ -41,6 +42,7 @@ returns-clause-turn g c =
       record {
         steps = c.step-outcome.ensures.steps;
         touches = c.step-outcome.ensures.touches;
+        counts = c.step-outcome.ensures.counts;
         at = c.clock-at.result;
         clock = c.clock-at.ensures;
         answers = c.take_answer-self.ensures.kept;
@@ -50,3 +52,9 @@ returns-clause-turn g c =
       },
       c.turn_of-turn.ensures,
     )
+
+pub returns-clause-idle : goal.returns-clause-idle
+returns-clause-idle g c =
+    λ idle le.
+    no_line_left (g.D.Device.model (core_disk c.args.self.now.core)) (g.D.Device.model (core_disk c.step-outcome.new.self)) (core_seen c.args.self.now.core) (core_seen c.step-outcome.new.self)
+    c.args.seat.now.actor c.step-outcome.result c.turn_of-turn.result c.requires c.step-outcome.ensures.steps c.args.seat.now.may c.turn_of-turn.ensures idle le
