@@ -12,8 +12,7 @@ tries-requires c =
 pub returns-in-NotContained : goal.returns-in-NotContained
 returns-in-NotContained c =
     let pair = c.args.pair.now in
-    let from : c.from.result + 1 ≡ c.args.leaf + 1 = ap (λ (n : ℕ). n + 1) c.from.ensures in
-    (
+    let from : c.from.result + 1 ≡ c.args.leaf + 1 = ap (λ (n : ℕ). n + 1) c.from.ensures in (
       c.plan_for.result,
       c.plan_for.ensures,
       λ state. other_plan c.args.job pair.parent pair.keep pair.gone c.args.leaf pair.above.now pair.kept.now c.plan_for.result (deed_of state c.tries.result) c.in-NotContained.is
