@@ -1,5 +1,6 @@
 -- What it comes to that a page was fetched and copied, or wasn't.
-use Rattle.std.proofs.Common.{◌≡◌, ◌≢◌, ℕ, ◌<◌, ◌≤◌, ◌^◌, ◌==◌, true, false, cond, List, Some, Result, Ok, Err, refl, sym, ap, subst, ◌∙◌, arith}
+use Rattle.std.proofs.Common.{◌≡◌, ◌≢◌, inl, inr, ℕ, ◌<◌, ◌≤◌, ◌^◌, ◌==◌, true, false, cond, List, Some, Result, Ok, Err, refl, sym, ap, subst, ◌∙◌, arith}
+use Rattle.std.specs.Prelude.{IfSome}
 use Rattle.std.specs.Result.{IfErr, IfOk, IsErrOf}
 use Rattle.hb_disk.specs.Model.{DiskModel}
 use Rattle.hb_frag.specs.declared.pages.Page.{Page}
@@ -78,7 +79,7 @@ kept_through {T = T} {U = U} stop d e old new other go looks state uses = record
   may_go = subst MayAllGo (sym uses) go;
 }
 
-names_it : (meta : Meta) (d : DiskModel) (id : ℕ) (stop : FetchStop) → IsPageOf meta id → FetchesNot meta d id stop → NamesPage meta d (map_stop_of stop)
+names_it : (meta : Meta) (d : DiskModel) (id : ℕ) (stop : FetchStop) → IsPageOf meta id → FetchesNot meta d id stop → NamesPage meta d.told (map_stop_of stop)
 names_it meta d id (fetches.Damaged page (Rule rule)) there (same, inl (first, none)) = absurd (page_not_none meta id there none)
 names_it meta d id (fetches.Damaged page (Rule rule)) there (same, inr (rule_is, some, broken)) = (
   omega (arith, same, there.0),

@@ -48,11 +48,11 @@ pub record AreParents (s : FileState) (parents : List ℕ) : Type 0 where
 
 -- A damaged page is one of the file, and the rule is one that a page breaks by itself: where the disk tells, what it reads as there
 -- breaks it.
-abbrev pub NamesPage : Meta → DiskModel → MapStop → Type 0
-NamesPage meta d (Damaged page (Rule rule)) = (1 ≤ page) × (page ≤ meta.high) × IsRuleOfPage rule × IfSome d.told (λ b. IsDamagedBy meta (place_bytes meta page b) rule)
-NamesPage meta d (Damaged page (Level asked found)) = ⊥
-NamesPage meta d (Damaged page (Extent asked found)) = ⊥
-NamesPage meta d stop = Unit {0}
+abbrev pub NamesPage : Meta → Option (List ℕ) → MapStop → Type 0
+NamesPage meta told (Damaged page (Rule rule)) = (1 ≤ page) × (page ≤ meta.high) × IsRuleOfPage rule × IfSome told (λ b. IsDamagedBy meta (place_bytes meta page b) rule)
+NamesPage meta told (Damaged page (Level asked found)) = ⊥
+NamesPage meta told (Damaged page (Extent asked found)) = ⊥
+NamesPage meta told stop = Unit {0}
 
 -- what is said of a stop where a page wasn't fetched
 abbrev pub map_stop_of : FetchStop → MapStop
@@ -67,7 +67,7 @@ IsNoDamage stop = Unit {0}
 
 -- what is so of each stop
 pub record StopsRightly (d : DiskModel) (held : StoreHeld) (stop : MapStop) : Type 0 where
-  pub names : NamesPage held.state.meta d stop
+  pub names : NamesPage held.state.meta d.told stop
   -- in a sound file, over a disk that tells, no page is damaged
   pub sound : OfSoundFile d held (λ s. IsNoDamage stop)
 

@@ -40,7 +40,6 @@ pub fn rows_may_be_done()
 /// with a box of fewer points. More than that, it has the walk's point in its box, and is one level down, or its box
 /// lies within the held page's and isn't all of it. A page that isn't so has failed the test of its level and its
 /// box, whatever the disk gave.
-#[tactic(auto, using(crate::proofs::Walks::AtHand::walks_lead_on, crate::proofs::Walks::FurtherOn::walks_lead_further))]
 pub fn walks_lead_on()
     ensures later { WalksLeadOn }
     ensures further { WalksLeadFurther }

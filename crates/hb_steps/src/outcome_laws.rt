@@ -36,7 +36,6 @@ pub fn no_page_is_damaged()
 /// Over any disk a step that stops a machine for a damaged page names the page that it wanted, or the head of
 /// the free chain, page 0 where that has none; and a rule that was broken: 1 of a number that no page has, 2 of
 /// a page that is free or of a head that isn't, 0, 3 to 6 or 10 of what was read; or the level, or the box.
-#[tactic(auto, using(crate::proofs::Facts::NamedDamage::damage_is_named))]
 pub fn damage_is_named()
     ensures { DamageIsNamed }
 {}

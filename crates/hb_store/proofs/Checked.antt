@@ -26,11 +26,11 @@ good_read meta bytes page fits read good =
 
 -- the first rule that a page breaks by itself is one of those
 rule_of_page : (rule : ℕ) (page : LivePage) (meta : Meta) → BreaksFirst rule page meta → IsRuleOfPage rule
-rule_of_page rule page meta (inl (third, broken)) = inr (inl (omega (arith, third), omega (arith, third)))
-rule_of_page rule page meta (inr (inl (fourth, broken))) = inr (inl (omega (arith, fourth), omega (arith, fourth)))
-rule_of_page rule page meta (inr (inr (inl (fifth, broken)))) = inr (inl (omega (arith, fifth), omega (arith, fifth)))
-rule_of_page rule page meta (inr (inr (inr (inl (sixth, broken))))) = inr (inl (omega (arith, sixth), omega (arith, sixth)))
-rule_of_page rule page meta (inr (inr (inr (inr (tenth, broken))))) = inr (inr tenth)
+rule_of_page rule page meta (inl third) = inr (inl (omega (arith, third.0), omega (arith, third.0)))
+rule_of_page rule page meta (inr (inl fourth)) = inr (inl (omega (arith, fourth.0), omega (arith, fourth.0)))
+rule_of_page rule page meta (inr (inr (inl fifth))) = inr (inl (omega (arith, fifth.0), omega (arith, fifth.0)))
+rule_of_page rule page meta (inr (inr (inr (inl sixth)))) = inr (inl (omega (arith, sixth.0), omega (arith, sixth.0)))
+rule_of_page rule page meta (inr (inr (inr (inr tenth)))) = inr (inr tenth.0)
 
 stop_holds : (meta : Meta) (bytes : List ℕ) (id : ℕ) (page : Page) (stop : FetchStop) → SpellsPage bytes page → BreaksHere meta id page stop → HoldsNot meta (Some bytes) id stop
 stop_holds meta bytes id page (fetches.Damaged at (Rule rule)) spells h = (h.0, rule_of_page rule h.3 meta h.5, inr (h.1, h.3, subst (λ (p : Page). SpellsPage bytes p) h.4 spells, h.5))

@@ -83,34 +83,34 @@ module _ (m : Machine) (actor : ℕ) (outcome : Outcome) (new : Machine) (bad : 
 -- ---- no other step stops a machine so
 
 module _ (m : Machine) (actor : ℕ) (outcome : Outcome) (new : Machine) (page : ℕ) (why : Why) (runs : m.stop ≡ None) (stopped : new.stop ≡ Some (Damaged page why)) where
-  abbrev Names : Type 0
-  Names = NamesDamage m actor page why
+  abbrev Named : Type 0
+  Named = NamesDamage m actor page why
 
-  runs_on : new.stop ≡ m.stop → Names
+  runs_on : new.stop ≡ m.stop → Named
   runs_on is = let never : None ≡ Some (Damaged page why) = sym runs ∙ sym is ∙ stopped in cc never
 
-  write_failed : new.stop ≡ Some WriteFault → Names
+  write_failed : new.stop ≡ Some WriteFault → Named
   write_failed is = let never : Some WriteFault ≡ Some (Damaged page why) = sym is ∙ stopped in cc never
 
-  stays : (said : Outcome) → StaysSo m said outcome new → Names
+  stays : (said : Outcome) → StaysSo m said outcome new → Named
   stays said (says, is) = runs_on (ap (λ (x : Machine). x.stop) is)
 
-  forces : (said : Outcome) → ForcesAll m said outcome new → Names
+  forces : (said : Outcome) → ForcesAll m said outcome new → Named
   forces said (inl (says, is)) = runs_on (ap (λ (x : Machine). x.stop) is)
   forces said (inr badly) = write_failed (ap (λ (x : Machine). x.stop) badly.1.stops)
 
-  performed : (fetched : StoreState) (deed : Deed) → Performs m fetched actor deed outcome new → Names
+  performed : (fetched : StoreState) (deed : Deed) → Performs m fetched actor deed outcome new → Named
   performed fetched deed performs = runs_on performs.stop
 
-  more : FlushesMore m outcome new → Names
+  more : FlushesMore m outcome new → Named
   more (empty, inl (id, oldest, due, quiet, well)) = runs_on (ap (λ (x : Machine). x.stop) well.leaves)
   more (empty, inr (inl (old, due, quiet, turns))) = runs_on (ap (λ (x : Machine). x.stop) turns.leaves)
   more (empty, inr (inr (calls, left, fails))) = write_failed (ap (λ (x : Machine). x.stop) fails.stops)
 
-  works : Works m actor outcome new → Names
+  works : Works m actor outcome new → Named
   works (inl (by, way, so)) = stays (outcomes.Blocked by) so
   works (inr (inl (free, unready, inl (waits, force)))) = forces outcomes.Helped force
-  works (inr (inl (free, unready, inr (empty, rest)))) = ready_kind m outcome new Names empty more rest
+  works (inr (inl (free, unready, inr (empty, rest)))) = ready_kind m outcome new Named empty more rest
   works (inr (inr (free, ready, inl row))) = performed row.fetched row.deed row.performs
   works (inr (inr (free, ready, inr (inl gives)))) = performed gives.fetched _ gives.performs
   works (inr (inr (free, ready, inr (inr bad)))) = names_page m actor outcome new bad page why stopped
