@@ -1,5 +1,5 @@
 -- Over any disk a step that stops a machine for a damaged page names one that it needs, and a rule that can be broken.
-use Rattle.hb_steps.proofs.Facts.Names.{◌≡◌, ◌≢◌, ◌⊎◌, inl, inr, ℕ, Option, Some, None, refl, sym, ap, ◌∙◌, subst, LivePage, Page, Live, Meta, Wanted, Outcome, Deed, MeetsBadPage, ForcesAll, StaysSo, Files, Machine, Performs, StepsTo, Works, StoreState, StopWhy}
+use Rattle.hb_steps.proofs.Facts.Names.{◌≡◌, ◌⊎◌, inl, inr, ℕ, Option, Some, None, refl, sym, ap, ◌∙◌, subst, Page, Live, Meta, Wanted, Outcome, Deed, MeetsBadPage, ForcesAll, StaysSo, Machine, Performs, Works, StoreState}
 use Rattle.std.proofs.lemmas.Option.{same_Some}
 use Rattle.hb_frag.specs.declared.pages.Page.TheVariants.{Free}
 use Rattle.hb_space.proofs.Facts.Boxes.{Within-self}

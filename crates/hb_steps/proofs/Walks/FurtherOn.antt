@@ -1,5 +1,5 @@
 -- The page that a walk latches is further on for its point, over every disk: one level down, or of a box within the held page's.
-use Rattle.hb_steps.proofs.Walks.Names.{◌≡◌, inl, inr, ℕ, ◌-◌, ◌<◌, List, Option, Some, None, refl, sym, ap, ◌∙◌, subst, arith, Contains, option_and_then, same_Some, All-contains, Leaf, Records, Child, Sibling, LivePage, Live, Meta, Mode, Wanted, Activity, goal_of, job_mode, session_mode, walk_held, in_mode, named_page, walk_next, wanted_of, wanted_page, first_among, sibling_fewer, AnyPage, HasItsBox, asked_box, box_at, box_by_leaf, looked_live, wanted_by, Brings, MachineKeeps, Machine, live_here, with_disk, Placed, leaf_at, leaves, leaves_of, siblings_of, BelongsAt, IsActor, leaf_is_sibling, placed, Area, volume, IsGoodPage, StoreState}
+use Rattle.hb_steps.proofs.Walks.Names.{◌≡◌, inl, inr, ℕ, ◌-◌, ◌<◌, List, Option, Some, None, refl, sym, ap, ◌∙◌, subst, arith, Contains, option_and_then, same_Some, All-contains, Leaf, Records, Child, Sibling, LivePage, Live, Meta, Mode, Wanted, Activity, goal_of, job_mode, session_mode, walk_held, in_mode, named_page, walk_next, wanted_of, wanted_page, first_among, sibling_fewer, AnyPage, HasItsBox, asked_box, box_at, box_by_leaf, looked_live, Brings, MachineKeeps, Machine, live_here, Placed, leaf_at, leaves, leaves_of, siblings_of, BelongsAt, IsActor, leaf_is_sibling, placed, Area, volume, IsGoodPage, StoreState}
 use Rattle.hb_activity.specs.declared.activities.Activity.TheVariants as at
 use Rattle.hb_activity.specs.Walks.{walk_point}
 use Rattle.hb_frag.proofs.Facts.Tiles.{tiles_within}
