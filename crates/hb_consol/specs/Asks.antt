@@ -8,7 +8,7 @@ use Rattle.hb_ops.specs.Sound.{FitsFile}
 use Rattle.hb_activity.specs.declared.jobs.Job.{Job}
 use Rattle.hb_activity.specs.declared.activities.Activity.{Activity}
 use Rattle.hb_activity.specs.declared.activities.Activity.TheVariants as at
-use Rattle.hb_activity.specs.Passing.{LeadsBelow, WalksAbove}
+use Rattle.hb_activity.specs.Passing.{WalksAbove}
 
 -- The pages that a step is given, by their numbers: in front of the one that it latched the parent, and the page to keep where a
 -- pair is tried or decided.
@@ -43,11 +43,7 @@ MayAskToMerge other meta page first second = ⊥
 abbrev pub MergesTwo : Meta → ℕ → LivePage → LivePage → LivePage → Type 0
 MergesTwo meta gone above kept page = (0 < meta.live) × MayMerge above kept gone page (capacity_of page.level meta.dcap meta.icap)
 
--- Where memory may be asked for: at the end of a walk, in a scan, in a try, and where two pages become one. The code asks for it
--- in the last case alone.
+-- Memory is asked for only where two pages become one: where the decision is to merge.
 abbrev pub AsksMemoryToMerge : Activity → Meta → LivePage → Option LivePage → Option LivePage → Type 0
-AsksMemoryToMerge (at.ConsolidatorWalk job held) meta page first second = (page.level ≡ job.level) × LeadsBelow page job
-AsksMemoryToMerge (at.ConsolidatorScan job parent child) meta page first second = Unit {0}
-AsksMemoryToMerge (at.ConsolidatorTry job parent keep gone leaf) meta page first second = Unit {0}
 AsksMemoryToMerge (at.ConsolidatorDecide job parent keep gone) meta page (Some above) (Some kept) = MergesTwo meta gone above kept page
 AsksMemoryToMerge other meta page first second = ⊥

@@ -21,8 +21,7 @@ use std::alloc::Global;
 ///
 /// # Errors
 ///
-/// Memory was refused. It is wanted only where two pages become one. The clause `memory` is wider: it allows
-/// the end of a walk, a scan and a try too.
+/// Memory was refused. It is wanted only where two pages become one.
 pub fn next(
     alloc: Global,
     state: Activity,
@@ -37,9 +36,9 @@ pub fn next(
     ensures memory { OnErr result (AsksMemoryToMerge state latched.entry.meta.now latched.entry.page.now (option_copied first.entry) (option_copied second.entry)) }
 {
     match state {
-        Activity::ConsolidatorWalk { job, .. } => walk(job, latched.id, latched.page),
+        Activity::ConsolidatorWalk { job, .. } => Ok(walk(job, latched.id, latched.page)),
         Activity::ConsolidatorScan { job, parent, child } => match first {
-            Some(above) => tries(job, parent, child, above, latched.page, 0),
+            Some(above) => Ok(tries(job, parent, child, above, latched.page, 0)),
             None => unreachable!(),
         },
         Activity::ConsolidatorPromote {
@@ -101,7 +100,7 @@ fn next_of_pair(
                 page: latched.page,
                 meta: latched.meta,
             };
-            try_pair(job, &pair, leaf)
+            Ok(try_pair(job, &pair, leaf))
         }
         Activity::ConsolidatorDecide {
             job,

@@ -23,17 +23,17 @@ use std::alloc::Global;
 
 /// What a try comes to: where the two may become one, the parent is to be promoted. Else the sibling
 /// leaves behind this one are looked at.
-pub(crate) fn try_pair(job: Job, pair: &Pair<'_>, leaf: u32) -> Result<Next, NoMemory>
-    ensures { IfOk result (λ next. (plan : OnePlan) × PlansMerge pair.now.meta.now pair.now.gone pair.now.above.now pair.now.kept.now pair.now.page.now plan
-        × ((state : OneActivity) → deed_of state next ≡ after_try job pair.now.parent pair.now.keep pair.now.gone leaf pair.now.above.now pair.now.kept.now plan)) }
+pub(crate) fn try_pair(job: Job, pair: &Pair<'_>, leaf: u32) -> Next
+    ensures { (plan : OnePlan) × PlansMerge pair.now.meta.now pair.now.gone pair.now.above.now pair.now.kept.now pair.now.page.now plan
+        × ((state : OneActivity) → deed_of state result ≡ after_try job pair.now.parent pair.now.keep pair.now.gone leaf pair.now.above.now pair.now.kept.now plan) }
 {
     match plan_for(pair) {
-        MergePlan::Merge => Ok(Next::moves(Activity::ConsolidatorPromote {
+        MergePlan::Merge => Next::moves(Activity::ConsolidatorPromote {
             job,
             parent: pair.parent,
             keep: pair.keep,
             gone: pair.gone,
-        })),
+        }),
         MergePlan::NotContained | MergePlan::ManyParents | MergePlan::TooHeavy => tries(
             job,
             pair.parent,

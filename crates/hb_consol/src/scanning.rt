@@ -1,6 +1,6 @@
 //! The search for a pair among the leaves of a page.
 
-ghost use Rattle.std.specs.Prelude.{◌≡◌, ◌<◌, ◌^◌, [], ◌∷◌, length, IfOk};
+ghost use Rattle.std.specs.Prelude.{◌≡◌, ◌<◌, ◌^◌, [], ◌∷◌, length};
 ghost use Rattle.hb_frag.specs.Leaves.{leaves};
 ghost use Rattle.hb_activity.specs.Deciding.{deed_of};
 ghost use Rattle.hb_activity.specs.declared.activities.Activity.{Activity as OneActivity};
@@ -10,7 +10,6 @@ ghost use Rattle.hb_consol.specs.Doing.{IsScanned, counts_behind, found_behind};
 use crate::children::child_behind;
 use hb_activity::{Activity, Job, Next};
 use hb_frag::{Frag, Leaf, LivePage, Node};
-use hb_space::NoMemory;
 
 /// What a scan of leaves found.
 #[derive(Clone, Copy, Debug, PartialEq, Eq)]
@@ -30,19 +29,19 @@ pub(crate) fn tries(
     above: &LivePage,
     kept: &LivePage,
     from: u64,
-) -> Result<Next, NoMemory>
+) -> Next
     requires { length (leaves kept.now.frag) < 2 ^ 32 }
-    ensures { IfOk result (λ next. (state : OneActivity) → deed_of state next ≡ tries job parent above.now keep (pair_from above.now kept.now from)) }
+    ensures { (state : OneActivity) → deed_of state result ≡ tries job parent above.now keep (pair_from above.now kept.now from) }
 {
     match pair_in(above, &kept.frag, from) {
-        Scanned::Pair { gone, place } => Ok(Next::moves(Activity::ConsolidatorTry {
+        Scanned::Pair { gone, place } => Next::moves(Activity::ConsolidatorTry {
             job,
             parent,
             keep,
             gone,
             leaf: place,
-        })),
-        Scanned::Passed(_) => Ok(scans(job, parent, child_behind(above, keep))),
+        }),
+        Scanned::Passed(_) => scans(job, parent, child_behind(above, keep)),
     }
 }
 

@@ -1,11 +1,10 @@
 //! The walk to the parent.
 
-ghost use Rattle.std.specs.Prelude.{◌≡◌, ◌<◌, ◌≤◌, ℕ, All, Option, Some, IfOk, OnErr};
+ghost use Rattle.std.specs.Prelude.{◌≡◌, ◌<◌, ◌≤◌, ℕ, All, Option, Some};
 ghost use Rattle.hb_space.specs.Boxes.{Holds};
 ghost use Rattle.hb_frag.specs.Leaves.{WellCut, leaves};
 ghost use Rattle.hb_frag.specs.Rules.{BelongsAt};
 ghost use Rattle.hb_activity.specs.Deciding.{deed_of};
-ghost use Rattle.hb_activity.specs.Passing.{LeadsBelow};
 ghost use Rattle.hb_activity.specs.Sights.{Sight};
 ghost use Rattle.hb_consol.specs.ConsolidatorRows.{children_of, first_one, scans};
 ghost use Rattle.hb_consol.specs.MergeRows.{ConsolidatorRow};
@@ -14,33 +13,31 @@ use crate::children::first_child;
 use crate::scanning::scans;
 use hb_activity::{Activity, Job, Next};
 use hb_frag::{Leaf, LivePage};
-use hb_space::NoMemory;
 
 /// What a walk comes to at a page: it is over at a page of the job's level whose leaf at the point is a
 /// child leaf, and the first of its children is scanned. Else it passes on to the page that the leaf
 /// names, and a sibling leaf shows that the parent owes a posting.
 #[tactic(auto, using(hb_activity::proofs::Facts::OneLeaf::no_records))]
-pub(crate) fn walk(job: Job, id: u32, page: &LivePage) -> Result<Next, NoMemory>
+pub(crate) fn walk(job: Job, id: u32, page: &LivePage) -> Next
     requires well_cut { WellCut page.now }
     requires kinds { All (BelongsAt page.now.level) (leaves page.now.frag) }
     requires held { Holds page.now.area job.point }
     requires above { 1 ≤ page.now.level }
     requires low { page.now.level < 255 }
-    ensures row { IfOk result (λ next. (held : Option ℕ) (s : Sight) → ConsolidatorRow (Activity.ConsolidatorWalk job held) s id page.now
-        (deed_of (Activity.ConsolidatorWalk job held) next)) }
-    ensures memory { OnErr result ((page.now.level ≡ job.level) × LeadsBelow page.now job) }
+    ensures { (held : Option ℕ) (s : Sight) → ConsolidatorRow (Activity.ConsolidatorWalk job held) s id page.now
+        (deed_of (Activity.ConsolidatorWalk job held) result) }
 {
     match page.leaf_at(&job.point) {
         (Leaf::Child(_), _) => {
             if page.level == job.level {
-                Ok(scan_first(job, id, page))
+                scan_first(job, id, page)
             } else {
-                Ok(Next::moves(onward(job, id)))
+                Next::moves(onward(job, id))
             }
         }
         (Leaf::Sibling(_), _) => {
             let owed = Job::owed(page.level, job.point.copy());
-            Ok(Next::adds(onward(job, id), owed))
+            Next::adds(onward(job, id), owed)
         }
         (Leaf::Records(_), _) => unreachable!(),
     }

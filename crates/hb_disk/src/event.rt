@@ -3,6 +3,9 @@ ghost use Rattle.std.specs.Prelude.{◌≡◌, ◌+◌, ◌≤◌, length, repli
 ghost use Rattle.hb_disk.specs.Model.{overwritten};
 ghost use Rattle.hb_disk.specs.Events.{undone, range_of, LiesWithin};
 
+use hb_space::NoMemory;
+use std::alloc::AllocFailed;
+
 /// Why a call wasn't done.
 #[derive(Clone, Copy, PartialEq, Eq)]
 pub(crate) enum Refused {
@@ -12,6 +15,28 @@ pub(crate) enum Refused {
     Over,
     /// No memory was found for its record.
     NoMemory,
+}
+
+impl From<NoMemory> for Refused {
+    ghost use Rattle.std.specs.Prelude.{◌≡◌};
+    ghost use Rattle.hb_disk.specs.declared.event.Refused.TheVariants.{NoMemory as Starved};
+
+    ghost from_gives = { λ _ refused. refused ≡ Starved };
+
+    fn from(_refused: NoMemory) -> Refused {
+        Refused::NoMemory
+    }
+}
+
+impl<T: Drop> From<AllocFailed<T>> for Refused {
+    ghost use Rattle.std.specs.Prelude.{◌≡◌};
+    ghost use Rattle.hb_disk.specs.declared.event.Refused.TheVariants.{NoMemory as Starved};
+
+    ghost from_gives = { λ _ refused. refused ≡ Starved };
+
+    fn from(_refused: AllocFailed<T>) -> Refused {
+        Refused::NoMemory
+    }
 }
 
 /// Which bytes stand in an image at each place that wasn't synced.

@@ -85,9 +85,7 @@ impl History {
             call,
             change,
         };
-        if self.events.push(event).is_err() {
-            return Err(Refused::NoMemory);
-        }
+        self.events.push(event)?;
         Ok(())
     }
 
@@ -122,7 +120,7 @@ impl History {
         }
         match self.bytes[at..at + len].to_vec(alloc) {
             Ok(before) => self.note(call, Change::Wrote { at, before }),
-            Err(_) => Err(self.miss(Refused::NoMemory)),
+            Err(refused) => Err(self.miss(Refused::from(refused))),
         }
     }
 

@@ -1,5 +1,6 @@
 -- What it comes to that a page was fetched and copied, or wasn't.
-use Rattle.std.proofs.Common.{◌≡◌, ◌≢◌, ℕ, ◌<◌, ◌≤◌, ◌^◌, ◌==◌, true, false, cond, List, Some, Result, Ok, Err, refl, sym, ap, subst, ◌∙◌, arith}
+use Rattle.std.proofs.Common.{◌≡◌, ◌≢◌, inl, inr, ℕ, ◌<◌, ◌≤◌, ◌^◌, ◌==◌, true, false, cond, List, Some, Result, Ok, Err, refl, sym, ap, subst, ◌∙◌, arith}
+use Rattle.std.specs.Prelude.{IfSome}
 use Rattle.std.specs.Result.{IfErr, IfOk, IsErrOf}
 use Rattle.hb_disk.specs.Model.{DiskModel}
 use Rattle.hb_frag.specs.declared.pages.Page.{Page}
@@ -11,7 +12,8 @@ use Rattle.hb_layout.specs.Limits.{IsLayout}
 use Rattle.hb_ops.specs.Files.{FileState, page_of, last_of}
 use Rattle.hb_ops.specs.Sound.{IsSound}
 use Rattle.hb_store.specs.Calls.{Fetched, KeepsAllButPages, use_fetched}
-use Rattle.hb_store.specs.Fetching.{FetchesNot, IsNoPage, LooksUp}
+use Rattle.hb_store.specs.Fetching.{FetchesNot, IsDamagedBy, IsNoPage, LooksUp}
+use Rattle.hb_store.specs.Opening.{place_bytes}
 use Rattle.hb_store.specs.Held.{StoreHeld}
 use Rattle.hb_store.specs.Keeps.{StoreKeeps}
 use Rattle.hb_store.specs.Replaying.{IsPageOf}
@@ -77,8 +79,14 @@ kept_through {T = T} {U = U} stop d e old new other go looks state uses = record
   may_go = subst MayAllGo (sym uses) go;
 }
 
-names_it : (meta : Meta) (d : DiskModel) (id : ℕ) (stop : FetchStop) → IsPageOf meta id → FetchesNot meta d id stop → NamesPage meta (map_stop_of stop)
-names_it meta d id (fetches.Damaged page (Rule rule)) there why = (omega (arith, why.0, there.0), omega (arith, why.0, there.1))
+names_it : (meta : Meta) (d : DiskModel) (id : ℕ) (stop : FetchStop) → IsPageOf meta id → FetchesNot meta d id stop → NamesPage meta d.told (map_stop_of stop)
+names_it meta d id (fetches.Damaged page (Rule rule)) there (same, inl (first, none)) = absurd (page_not_none meta id there none)
+names_it meta d id (fetches.Damaged page (Rule rule)) there (same, inr (rule_is, some, broken)) = (
+  omega (arith, same, there.0),
+  omega (arith, same, there.1),
+  rule_is,
+  subst (λ (at : ℕ). IfSome d.told (λ b. IsDamagedBy meta (place_bytes meta at b) rule)) (sym same) broken,
+)
 names_it meta d id (fetches.Damaged page (Level asked found)) there why = why
 names_it meta d id (fetches.Damaged page (Extent asked found)) there why = why
 names_it meta d id fetches.ReadFault there why = tt

@@ -1,5 +1,5 @@
 -- What the making of a map did to its store and its sink.
-use Rattle.std.specs.Prelude.{◌≡◌, ℕ, ◌+◌, ◌<◌, ◌≤◌, ◌^◌, List, length, count_by, slice_index, Option, Result, IfErr, IsErrOf, OnOk, OnErr}
+use Rattle.std.specs.Prelude.{◌≡◌, ℕ, ◌+◌, ◌<◌, ◌≤◌, ◌^◌, List, length, count_by, slice_index, Option, Result, IfErr, IfSome, IsErrOf, OnOk, OnErr}
 use Rattle.hb_disk.specs.Model.{DiskModel}
 use Rattle.hb_frag.specs.declared.pages.Page.{Page}
 use Rattle.hb_frag.specs.declared.pages.Page.TheVariants.{Live, Free}
@@ -10,9 +10,10 @@ use Rattle.hb_ops.specs.Sound.{IsSound}
 use Rattle.hb_outside.specs.Streams.{Appends, AppendsFront}
 use Rattle.hb_pool.specs.Frames.{Use, must_stay}
 use Rattle.hb_store.specs.Calls.{KeepsAllButPages}
-use Rattle.hb_store.specs.Fetching.{LooksUp}
+use Rattle.hb_store.specs.Fetching.{IsDamagedBy, IsRuleOfPage, LooksUp}
 use Rattle.hb_store.specs.Held.{StoreHeld}
 use Rattle.hb_store.specs.Keeps.{StoreKeeps}
+use Rattle.hb_store.specs.Opening.{place_bytes}
 use Rattle.hb_store.specs.declared.stops.FetchStop.{FetchStop}
 use Rattle.hb_store.specs.declared.stops.FetchStop.TheVariants as fetches
 use Rattle.hb_store.specs.declared.stops.Why.TheVariants.{Rule, Level, Extent}
@@ -45,12 +46,13 @@ pub record AreParents (s : FileState) (parents : List ℕ) : Type 0 where
   pub long : length parents ≡ length s.pages
   pub each : (place : ℕ) → place < length parents → slice_index parents place ≡ parents_of (place + 1) s.pages
 
--- A damaged page is one of the file, and a rule is named that its bytes break.
-abbrev pub NamesPage : Meta → MapStop → Type 0
-NamesPage meta (Damaged page (Rule rule)) = (1 ≤ page) × (page ≤ meta.high)
-NamesPage meta (Damaged page (Level asked found)) = ⊥
-NamesPage meta (Damaged page (Extent asked found)) = ⊥
-NamesPage meta stop = Unit {0}
+-- A damaged page is one of the file, and the rule is one that a page breaks by itself: where the disk tells, what it reads as there
+-- breaks it.
+abbrev pub NamesPage : Meta → Option (List ℕ) → MapStop → Type 0
+NamesPage meta told (Damaged page (Rule rule)) = (1 ≤ page) × (page ≤ meta.high) × IsRuleOfPage rule × IfSome told (λ b. IsDamagedBy meta (place_bytes meta page b) rule)
+NamesPage meta told (Damaged page (Level asked found)) = ⊥
+NamesPage meta told (Damaged page (Extent asked found)) = ⊥
+NamesPage meta told stop = Unit {0}
 
 -- what is said of a stop where a page wasn't fetched
 abbrev pub map_stop_of : FetchStop → MapStop
@@ -65,7 +67,7 @@ IsNoDamage stop = Unit {0}
 
 -- what is so of each stop
 pub record StopsRightly (d : DiskModel) (held : StoreHeld) (stop : MapStop) : Type 0 where
-  pub names : NamesPage held.state.meta stop
+  pub names : NamesPage held.state.meta d.told stop
   -- in a sound file, over a disk that tells, no page is damaged
   pub sound : OfSoundFile d held (λ s. IsNoDamage stop)
 

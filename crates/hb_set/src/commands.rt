@@ -1,6 +1,6 @@
 ghost use Rattle.std.specs.Prelude.{◌≡◌};
 
-use hb_space::{Area, Body, Point, Record, Records};
+use hb_space::{Area, Body, NoMemory, Point, Record, Records};
 
 /// A command of the text.
 #[derive(Debug, Drop)]
@@ -36,6 +36,17 @@ pub enum Reply {
     NoMemory,
     /// A page could not be read.
     ReadFault,
+}
+
+impl From<NoMemory> for Reply {
+    ghost use Rattle.std.specs.Prelude.{◌≡◌};
+    ghost use Rattle.hb_set.specs.declared.commands.Reply.TheVariants.{NoMemory as Refused};
+
+    ghost from_gives = { λ _ reply. reply ≡ Refused };
+
+    fn from(_refused: NoMemory) -> Reply {
+        Reply::NoMemory
+    }
 }
 
 impl Command {

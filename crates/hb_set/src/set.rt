@@ -1,4 +1,4 @@
-ghost use Rattle.std.specs.Prelude.{◌≡◌, ◌≢◌, ◌==◌, ℕ, length, None, IfOk, IfErr};
+ghost use Rattle.std.specs.Prelude.{◌≡◌, ◌≢◌, ◌==◌, ℕ, length, None, IfOk, IfErr, OnErr};
 ghost use Rattle.std.specs.FinMap as map;
 ghost use Rattle.hb_set.specs.Machine.{Answers, HasAttributes, MayWantMemory, attributes, reply_of};
 ghost use Rattle.hb_lemmas.specs.Places.{IsGapFor, IsPlaceOf};
@@ -85,17 +85,25 @@ impl Set {
         ensures answers { Answers self.old (Command.Insert added.now) result self.new }
         ensures memory { result ≡ Reply.NoMemory → map.get self.old added.now.key ≡ None }
     {
+        match self.put(added) {
+            Ok(reply) => reply,
+            Err(refused) => Reply::from(refused),
+        }
+    }
+
+    fn put(&mut self, added: &Record) -> Result<Reply, NoMemory>
+        ensures answers { IfOk result (λ reply. Answers self.old (Command.Insert added.now) reply self.new) }
+        ensures done { IfOk result (λ reply. reply ≢ Reply.NoMemory) }
+        ensures kept { OnErr result (self.new ≡ self.old) }
+        ensures absent { OnErr result (map.get self.old added.now.key ≡ None) }
+    {
         let place = match place_of(&self.records, &added.key) {
-            Ok(_) => return Reply::Duplicate,
+            Ok(_) => return Ok(Reply::Duplicate),
             Err(place) => place,
         };
-        let Ok(handle) = Box::new(*self.records.allocator(), added.copy()) else {
-            return Reply::NoMemory;
-        };
-        if self.records.insert(place, handle).is_err() {
-            return Reply::NoMemory;
-        }
-        Reply::Done
+        let handle = Box::new(*self.records.allocator(), added.copy())?;
+        self.records.insert(place, handle)?;
+        Ok(Reply::Done)
     }
 
     fn delete(&mut self, point: &Point) -> Reply
@@ -126,7 +134,7 @@ impl Set {
     {
         match held_by(*self.records.allocator(), &self.records, area) {
             Ok(held) => Reply::Within(Records::new(held)),
-            Err(_) => Reply::NoMemory,
+            Err(refused) => Reply::from(refused),
         }
     }
 }

@@ -23,7 +23,7 @@ module _ (laws : TreeLaws) (s : FileState) (made : AreWellMade s) (match : Sibli
   pub step_leads : (id next : ℕ) (page : LivePage) → live_page s id ≡ Some page → LeadsOn s p id next → LeadsFurther s p page next
   step_leads id next page live (inl x) =
       let m = child_below laws s made match children covered area p id page next x.area live (seen_in s p id (Child next) page live x) in
-      record { named = m.named; live = m.live; inside = m.inside; further = inl m.below }
+      record { named = m.named; live = m.live; further = record { inside = m.inside; further = inl m.below } }
   step_leads id next page live (inr x) =
       let there = leaf_there laws s made match covered area p id page (Sibling next) x.area live (seen_in s p id (Sibling next) page live x) in
       let has = leaf_is_sibling (leaves_of page.frag page.area) next x.area there.0 in
@@ -34,6 +34,8 @@ module _ (laws : TreeLaws) (s : FileState) (made : AreWellMade s) (match : Sibli
       record {
         named = m.0;
         live = m.1;
-        inside = subst (λ (a : Area). Holds a p) (sym m.3) there.1;
-        further = inr (m.2, subst (λ (a : Area). Within a page.area) (sym m.3) within, other);
+        further = record {
+          inside = subst (λ (a : Area). Holds a p) (sym m.3) there.1;
+          further = inr (m.2, subst (λ (a : Area). Within a page.area) (sym m.3) within, other);
+        };
       }

@@ -54,9 +54,14 @@ pub record HasWalk (s : FileState) (p : List ℕ) (id : ℕ) : Type 0 where
   pub whole : IsWholeWalk s p id rest last
   pub responsible : IsResponsible s p last
 
--- The next page has the point in its box too, and stands one level down, or on the same level with a box that is part of the page's.
+-- A page is further on for a point: it has the point in its box too, and stands one level down, or on the same level with a box
+-- that lies in the page's and isn't all of it.
+pub record IsFurther (p : List ℕ) (page named : LivePage) : Type 0 where
+  pub inside : Holds named.area p
+  pub further : (named.level + 1 ≡ page.level) ⊎ ((named.level ≡ page.level) × Within named.area page.area × (named.area ≢ page.area))
+
+-- So is the next page.
 pub record LeadsFurther (s : FileState) (p : List ℕ) (page : LivePage) (next : ℕ) : Type 0 where
   pub named : LivePage
   pub live : live_page s next ≡ Some named
-  pub inside : Holds named.area p
-  pub further : (named.level + 1 ≡ page.level) ⊎ ((named.level ≡ page.level) × Within named.area page.area × (named.area ≢ page.area))
+  pub further : IsFurther p page named

@@ -4,6 +4,7 @@ pub mod PrefixImages
 pub mod LogAndStop
 pub mod GivenUpLaws
 pub mod NoDamage
+pub mod NamedDamage
 pub mod StillThere
 pub mod NextLines
 pub mod EachRow

@@ -7,6 +7,7 @@ pub mod LaterWanted
 pub mod NoCircle
 pub mod SomebodyFree
 pub mod AtHand
+pub mod FurtherOn
 pub mod MayBeAsked
 pub mod AskedToMerge
 pub mod WalkingWorkers

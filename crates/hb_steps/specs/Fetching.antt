@@ -13,7 +13,7 @@ use Rattle.hb_steps.specs.Machines.{Files, Machine, current_file, modes}
 use Rattle.hb_ops.specs.Files.{page_of}
 use Rattle.hb_store.specs.Calls.{KeepsAllButPages}
 use Rattle.hb_store.specs.States.{IsGoodPage, StoreState, in_memory, is_dirty}
-use Rattle.hb_store.specs.Fetching.{IsNoPage}
+use Rattle.hb_store.specs.Fetching.{IsNoPage, IsRuleOfPage}
 
 -- The pages that stay in memory whatever comes: those that somebody holds, and those that are to be written to their places still.
 abbrev pub MustStay : Machine → ℕ → Type 0
@@ -40,9 +40,9 @@ abbrev pub IsFreeHead : StoreState → ℕ → Type 0
 IsFreeHead st id = (id ≡ st.meta.free) × (id ≢ 0)
 
 -- The wanted page is damaged: no page of the file has its number; or what the disk read as is no page or breaks a rule by
--- itself, which only a disk does that doesn't tell; or it isn't the page that was asked for.
+-- itself, which only a disk does that doesn't tell, and the page doesn't come; or it isn't the page that was asked for.
 abbrev pub IsBadRead : Option Files → StoreState → ℕ → Why → Type 0
-IsBadRead files st id (Rule rule) = (files ≡ None) × (in_memory st id ≡ None) × (rule ≢ 1)
+IsBadRead files st id (Rule rule) = (files ≡ None) × (in_memory st id ≡ None) × IsRuleOfPage rule
 IsBadRead files st id (Level level found) = ⊥
 IsBadRead files st id (Extent area found) = ⊥
 

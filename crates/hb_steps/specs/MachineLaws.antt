@@ -5,7 +5,8 @@ use Rattle.hb_space.specs.Actors.{IsActor}
 use Rattle.hb_ops.specs.declared.operations.Op.{Op}
 use Rattle.hb_activity.specs.declared.wanting.Wanted.{Wanted}
 use Rattle.hb_activity.specs.Waiting.{IsLater}
-use Rattle.hb_activity.specs.Walks.{walk_held}
+use Rattle.hb_activity.specs.Walks.{walk_held, walk_point}
+use Rattle.hb_sound.specs.PointWalks.{IsFurther}
 use Rattle.hb_store.specs.Making.{IsDoableHere}
 use Rattle.hb_store.specs.States.{StoreState}
 use Rattle.hb_steps.specs.declared.outcomes.Outcome.{Outcome}
@@ -46,6 +47,13 @@ RowsMayBeDone = (m : Machine) (actor : ℕ) (fetched : StoreState) (deed : Deed)
 abbrev pub WalksLeadOn : Type 0
 WalksLeadOn = (m : Machine) (actor : ℕ) (fetched : StoreState) (held : ℕ) (before : LivePage) (wanted : Wanted) (page : LivePage) → IsActor actor → MachineKeeps m → Brings m AnyPage fetched →
     walk_held (m.activity actor) ≡ Some held → live_here m.store held ≡ Some before → wanted_by m actor ≡ Some wanted → IsAtHand (with_disk fetched m.files m.clock m) (m.activity actor) wanted page → IsLater before page
+
+-- For the walk's point it is further on: it has the point in its box, and is one level down, or of the same level with a box that
+-- lies within the held page's and isn't all of it.
+abbrev pub WalksLeadFurther : Type 0
+WalksLeadFurther = (m : Machine) (actor : ℕ) (fetched : StoreState) (held : ℕ) (before : LivePage) (p : List ℕ) (wanted : Wanted) (page : LivePage) → IsActor actor → MachineKeeps m → Brings m AnyPage fetched →
+    walk_held (m.activity actor) ≡ Some held → walk_point (m.activity actor) ≡ Some p → live_here m.store held ≡ Some before → wanted_by m actor ≡ Some wanted →
+    IsAtHand (with_disk fetched m.files m.clock m) (m.activity actor) wanted page → IsFurther p before page
 
 -- The page that a step latches is none that its actor holds, but for a promotion.
 abbrev pub NoPageIsLatchedTwice : Type 0

@@ -1,7 +1,7 @@
 //! What each step keeps over any disk, and what a body may know of a machine there. Each law is the
 //! contract of a function that does nothing: a caller learns it by the call.
 
-ghost use Rattle.hb_steps.specs.MachineLaws.{BoxLocksStayFit, MachineStaysKept, MachinesStayKept, NoPageIsLatchedTwice, RowsMayBeDone, WalksLeadOn};
+ghost use Rattle.hb_steps.specs.MachineLaws.{BoxLocksStayFit, MachineStaysKept, MachinesStayKept, NoPageIsLatchedTwice, RowsMayBeDone, WalksLeadFurther, WalksLeadOn};
 
 use crate::file_laws::{pages_stay_pages_of_the_file, rows_are_allowed};
 use crate::keeping_laws::room_stays_known;
@@ -36,11 +36,13 @@ pub fn rows_may_be_done()
     held_is_a_point();
 }
 
-/// The page that a walk latches after one that it holds is of a lower level, or of the same level with a box
-/// of fewer points. A page that isn't has failed the test of its level and its box, whatever the disk gave.
-#[tactic(auto, using(crate::proofs::Walks::AtHand::walks_lead_on))]
+/// The page that a walk latches after one that it holds comes later: it is of a lower level, or of the same level
+/// with a box of fewer points. More than that, it has the walk's point in its box, and is one level down, or its box
+/// lies within the held page's and isn't all of it. A page that isn't so has failed the test of its level and its
+/// box, whatever the disk gave.
 pub fn walks_lead_on()
-    ensures { WalksLeadOn }
+    ensures later { WalksLeadOn }
+    ensures further { WalksLeadFurther }
 {}
 
 /// The page that a step latches is none that its actor holds, but for a promotion.

@@ -1,7 +1,7 @@
 //! That a step has one outcome, which the machine and the actor fix. Each law is the contract of a function
 //! that does nothing: a caller learns it by the call.
 
-ghost use Rattle.hb_steps.specs.DamageLaws.{KeptStepIsOne, NoPageIsDamaged, StaysUndamaged};
+ghost use Rattle.hb_steps.specs.DamageLaws.{DamageIsNamed, KeptStepIsOne, NoPageIsDamaged, StaysUndamaged};
 ghost use Rattle.hb_steps.specs.OutcomeLaws.{AsideChangesNoFile, OutcomeIsOne, StateIsOne};
 
 use hb_store::what_is_made_can_be_written;
@@ -31,6 +31,13 @@ pub fn a_step_aside_changes_no_file()
 pub fn no_page_is_damaged()
     ensures pages { NoPageIsDamaged }
     ensures stops { StaysUndamaged }
+{}
+
+/// Over any disk a step that stops a machine for a damaged page names the page that it wanted, or the head of
+/// the free chain, page 0 where that has none; and a rule that was broken: 1 of a number that no page has, 2 of
+/// a page that is free or of a head that isn't, 0, 3 to 6 or 10 of what was read; or the level, or the box.
+pub fn damage_is_named()
+    ensures { DamageIsNamed }
 {}
 
 /// Of a machine that keeps all that it should, two steps of one actor say the same and lead to machines that

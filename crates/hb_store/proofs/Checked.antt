@@ -7,7 +7,9 @@ use Rattle.hb_layout.specs.declared.meta.Meta.{Meta}
 use Rattle.hb_page_codec.specs.Exact.{AreBytes}
 use Rattle.hb_page_codec.specs.ReadingPages.{page_of_bytes}
 use Rattle.hb_page_codec.proofs.Facts.PageLaws.{has_spelling, page_again, page_takes}
-use Rattle.hb_store.specs.Fetching.{BreaksHere, HoldsNot}
+use Rattle.hb_frag.specs.declared.pages.LivePage.{LivePage}
+use Rattle.hb_ops.specs.Sound.{BreaksFirst}
+use Rattle.hb_store.specs.Fetching.{BreaksHere, HoldsNot, IsRuleOfPage}
 use Rattle.hb_store.specs.States.{IsGoodPage}
 use Rattle.hb_store.specs.declared.stops.FetchStop.{FetchStop}
 use Rattle.hb_store.specs.declared.stops.FetchStop.TheVariants as fetches
@@ -22,8 +24,16 @@ good_read meta bytes page fits read good =
     let Q : Option Page → Type 0 = λ o. IsSomeAnd o (λ page. SpellsPage bytes page × IsGoodPage meta page) in
     subst Q (sym read) (page_takes bytes page fits read, good)
 
+-- the first rule that a page breaks by itself is one of those
+rule_of_page : (rule : ℕ) (page : LivePage) (meta : Meta) → BreaksFirst rule page meta → IsRuleOfPage rule
+rule_of_page rule page meta (inl third) = inr (inl (omega (arith, third.0), omega (arith, third.0)))
+rule_of_page rule page meta (inr (inl fourth)) = inr (inl (omega (arith, fourth.0), omega (arith, fourth.0)))
+rule_of_page rule page meta (inr (inr (inl fifth))) = inr (inl (omega (arith, fifth.0), omega (arith, fifth.0)))
+rule_of_page rule page meta (inr (inr (inr (inl sixth)))) = inr (inl (omega (arith, sixth.0), omega (arith, sixth.0)))
+rule_of_page rule page meta (inr (inr (inr (inr tenth)))) = inr (inr tenth.0)
+
 stop_holds : (meta : Meta) (bytes : List ℕ) (id : ℕ) (page : Page) (stop : FetchStop) → SpellsPage bytes page → BreaksHere meta id page stop → HoldsNot meta (Some bytes) id stop
-stop_holds meta bytes id page (fetches.Damaged at (Rule rule)) spells h = (h.0, h.2, inr (h.1, h.3, subst (λ (p : Page). SpellsPage bytes p) h.4 spells, h.5))
+stop_holds meta bytes id page (fetches.Damaged at (Rule rule)) spells h = (h.0, rule_of_page rule h.3 meta h.5, inr (h.1, h.3, subst (λ (p : Page). SpellsPage bytes p) h.4 spells, h.5))
 stop_holds meta bytes id page (fetches.Damaged at (Level asked found)) spells h = h
 stop_holds meta bytes id page (fetches.Damaged at (Extent asked found)) spells h = h
 stop_holds meta bytes id page fetches.ReadFault spells h = tt
@@ -38,4 +48,4 @@ breaks_holds (Err stop) meta bytes id page fits read h = stop_holds meta bytes i
 pub no_page_holds : (meta : Meta) (bytes : List ℕ) (id : ℕ) (stop : FetchStop) → stop ≡ fetches.Damaged id (Rule 0) → page_of_bytes bytes ≡ None → HoldsNot meta (Some bytes) id stop
 no_page_holds meta bytes id stop is none =
     subst (HoldsNot meta (Some bytes) id) (sym is)
-    (refl, (λ e. absurd (omega (arith, e))), inl (refl, λ page spells. let never : None ≡ Some page = sym none ∙ page_again bytes page spells in cc never))
+    (refl, inl refl, inl (refl, λ page spells. let never : None ≡ Some page = sym none ∙ page_again bytes page spells in cc never))

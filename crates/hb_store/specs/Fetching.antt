@@ -1,5 +1,5 @@
 -- What a fetch reads and makes of a store, why it brings no page, and the number that an allocation takes.
-use Rattle.std.specs.Prelude.{◌≡◌, ◌≢◌, ◌==◌, ◌||◌, ◌⊎◌, ℕ, ◌<◌, List, Option, IfSome, ◌+◌, Some, None, IsSome, if◌then◌else◌}
+use Rattle.std.specs.Prelude.{◌≡◌, ◌≢◌, ◌==◌, ◌||◌, ◌⊎◌, ℕ, ◌<◌, ◌≤◌, List, Option, IfSome, ◌+◌, Some, None, IsSome, if◌then◌else◌}
 use Rattle.hb_disk.specs.Model.{DiskModel}
 use Rattle.hb_frag.specs.declared.pages.Page.{Page}
 use Rattle.hb_frag.specs.declared.pages.Page.TheVariants.{Live, Free}
@@ -30,6 +30,10 @@ IsDamagedBy meta bytes rule =
     ((rule ≡ 0) × ((page : Page) → SpellsPage bytes page → ⊥))
     ⊎ ((rule ≢ 0) × (page : LivePage) × SpellsPage bytes (Live page) × BreaksFirst rule page meta)
 
+-- A rule that a page may break by itself: 0 where its bytes are none, else one of those that speak of a page alone.
+abbrev pub IsRuleOfPage : ℕ → Type 0
+IsRuleOfPage rule = (rule ≡ 0) ⊎ ((3 ≤ rule) × (rule ≤ 6)) ⊎ (rule ≡ 10)
+
 -- What a call that may read a page did to a disk and its store, where `failed` says that a fault of the disk ended it.
 pub record LooksUp (failed : Type 0) (d e : DiskModel) (old new : StoreState) : Type 0 where
   -- the disk was only read, and its count of faults rose where one ended the call
@@ -37,10 +41,10 @@ pub record LooksUp (failed : Type 0) (d e : DiskModel) (old new : StoreState) : 
   -- what the store kept of the disk it keeps
   pub keeps : (durable : FileState) (later : List FileState) → StoreKeeps d old durable later → StoreKeeps e new durable later
 
--- Which rule a page breaks that isn't fetched, from what the disk read as, where it tells. 1 is the rule of a number
--- that is no page's; then nothing was read.
+-- Which rule a page breaks that isn't fetched: 1 for a number that is no page's, and then nothing was read; else one that a page
+-- breaks by itself, and where the disk tells, what it read as breaks it.
 abbrev pub Breaks : Meta → DiskModel → ℕ → ℕ → Type 0
-Breaks meta d id rule = ((rule ≡ 1) × IsNoPage meta id) ⊎ ((rule ≢ 1) × (¬ (IsNoPage meta id)) × IfSome d.told (λ b. IsDamagedBy meta (place_bytes meta id b) rule))
+Breaks meta d id rule = ((rule ≡ 1) × IsNoPage meta id) ⊎ (IsRuleOfPage rule × (¬ (IsNoPage meta id)) × IfSome d.told (λ b. IsDamagedBy meta (place_bytes meta id b) rule))
 
 -- Why a page of this number was not fetched.
 abbrev pub FetchesNot : Meta → DiskModel → ℕ → FetchStop → Type 0
@@ -53,10 +57,10 @@ abbrev pub BreaksHere : Meta → ℕ → Page → FetchStop → Type 0
 BreaksHere meta id page (fetches.Damaged at (Rule rule)) = (at ≡ id) × (rule ≢ 0) × (rule ≢ 1) × (live : LivePage) × (page ≡ Live live) × BreaksFirst rule live meta
 BreaksHere meta id page other = ⊥
 
--- Why the place of a page gave none: it holds no good page, by its bytes where they are known, and the stop says why. A
--- fault and want of a place say nothing of it.
+-- Why the place of a page gave none: it holds no good page, and the stop says which rule is broken, by its bytes where they are
+-- known. A fault and want of a place say nothing of it.
 abbrev pub HoldsNot : Meta → Option (List ℕ) → ℕ → FetchStop → Type 0
-HoldsNot meta bytes id (fetches.Damaged at (Rule rule)) = (at ≡ id) × (rule ≢ 1) × IfSome bytes (λ b. IsDamagedBy meta b rule)
+HoldsNot meta bytes id (fetches.Damaged at (Rule rule)) = (at ≡ id) × IsRuleOfPage rule × IfSome bytes (λ b. IsDamagedBy meta b rule)
 HoldsNot meta bytes id (fetches.Damaged at other) = ⊥
 HoldsNot meta bytes id other = Unit {0}
 

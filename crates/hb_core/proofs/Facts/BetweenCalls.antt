@@ -12,7 +12,7 @@ use Rattle.hb_disk.proofs.Facts.FaultLaws.{ReadsOnly-as}
 use Rattle.hb_lemmas.proofs.Options.{at_value, if_value}
 use Rattle.hb_ops.specs.Files.{page_of, last_of}
 use Rattle.hb_store.specs.Calls.{Fetched, StaysHere, use_fetched}
-use Rattle.hb_store.specs.Fetching.{Breaks, FetchesNot, IsCrowdedOut, IsNoPage, LooksUp}
+use Rattle.hb_store.specs.Fetching.{Breaks, FetchesNot, IsCrowdedOut, IsNoPage, IsRuleOfPage, LooksUp}
 use Rattle.hb_store.specs.Forced.{WritesGroups}
 use Rattle.hb_store.specs.Held.{IsTied, StoreHeld}
 use Rattle.hb_store.specs.Replaying.{IsPageOf}
@@ -139,10 +139,10 @@ module _ (d e : DiskModel) (c : RunningCore) (m : Machine) (id : ℕ) (step : Ma
       | inr (inr above) ↦ absurd (omega (arith, page.1, above))
     ]
 
-    bad_read : (rule : ℕ) → IsPageOf c.store.meta id → Breaks c.store.meta d id rule → rule ≢ 1
+    bad_read : (rule : ℕ) → IsPageOf c.store.meta id → Breaks c.store.meta d id rule → IsRuleOfPage rule
     bad_read rule page (inl (first, inl zero)) = absurd (omega (arith, page.0, zero))
     bad_read rule page (inl (first, inr above)) = absurd (omega (arith, page.1, above))
-    bad_read rule page (inr (other, some, told)) = other
+    bad_read rule page (inr (own, some, told)) = own
 
     absent : in_memory c.store id ≡ None → in_memory m.store id ≡ None
     absent none = ap (λ (x : StoreState). in_memory x id) step.shows.store ∙ none

@@ -35,7 +35,7 @@ use Rattle.hb_steps.proofs.Facts.LaterPages.{file_sound, shown_live}
 
 -- what a disk that tells reads is never damaged
 no_bad_read : (files : Files) (st : StoreState) (id : ℕ) (why : Why) → IsBadRead (Some files) st id why → ⊥
-no_bad_read files st id (Rule rule) (silent, none, other) = cc
+no_bad_read files st id (Rule rule) (silent, _, _) = cc
 no_bad_read files st id (Level level found) never = never
 no_bad_read files st id (Extent area found) never = never
 

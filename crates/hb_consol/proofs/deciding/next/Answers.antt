@@ -1,5 +1,4 @@
 use Rattle.std.proofs.Common.{[], ◌∷◌}
-use Rattle.std.proofs.lemmas.Result.{IfOk-weaker}
 use Rattle.hb_activity.specs.Deciding.{given_sight}
 use Rattle.hb_activity.specs.declared.activities.Activity.TheVariants as at
 use Rattle.hb_consol.proofs.MadeRows.{few_leaves, scans_there}
@@ -13,10 +12,10 @@ tries-requires c =
 pub returns-in-ConsolidatorWalk-clause-row : goal.returns-in-ConsolidatorWalk-clause-row
 returns-in-ConsolidatorWalk-clause-row c =
     let latched = c.args.latched in
-    rw c.in-ConsolidatorWalk.is (IfOk-weaker c.walk.result _ _ (λ next row free. row c.in-ConsolidatorWalk.held (given_sight latched.meta.now ((latched.id, latched.page.now) ∷ []) free)) c.walk.ensures.row)
+    rw c.in-ConsolidatorWalk.is (λ free. c.walk.ensures c.in-ConsolidatorWalk.held (given_sight latched.meta.now ((latched.id, latched.page.now) ∷ []) free))
 
 pub returns-in-Some-clause-row : goal.returns-in-Some-clause-row
 returns-in-Some-clause-row c =
     let latched = c.args.latched in
     let here = c.in-ConsolidatorScan in
-    rw (here.is, c.in-Some.is) (IfOk-weaker c.tries.result _ _ (λ next is free. scans_there latched.meta.now here.job here.parent latched.id c.in-Some.above.now latched.page.now free here.child _ (is (at.ConsolidatorScan here.job here.parent here.child))) c.tries.ensures)
+    rw (here.is, c.in-Some.is) (λ free. scans_there latched.meta.now here.job here.parent latched.id c.in-Some.above.now latched.page.now free here.child _ (c.tries.ensures (at.ConsolidatorScan here.job here.parent here.child)))

@@ -9,8 +9,8 @@ returns-in-ConsolidatorTry-clause-row c =
     let latched = c.args.latched in
     let here = c.in-ConsolidatorTry in
     let both = rw here.is at c.requires.asked in
-    rw here.is (IfOk-weaker c.try_pair.result _ _ (λ next told free. tries_there latched.meta.now here.job here.parent latched.id c.args.above.now latched.page.now free here.keep here.gone c.args.kept.now both.two told.0 told.1 here.leaf _
-    (told.2 (at.ConsolidatorTry here.job here.parent here.keep here.gone here.leaf))) c.try_pair.ensures)
+    rw here.is (let told = c.try_pair.ensures in λ free. tries_there latched.meta.now here.job here.parent latched.id c.args.above.now latched.page.now free here.keep here.gone c.args.kept.now both.two told.0 told.1 here.leaf _
+    (told.2 (at.ConsolidatorTry here.job here.parent here.keep here.gone here.leaf)))
 
 pub returns-in-ConsolidatorDecide-clause-row : goal.returns-in-ConsolidatorDecide-clause-row
 returns-in-ConsolidatorDecide-clause-row c =
