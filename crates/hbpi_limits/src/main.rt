@@ -49,7 +49,7 @@ const LIMITS: [(&str, Limit); 10] = [
         "1000000 lines, and 500000 records in one reply",
         Limit::Lines,
     ),
-    ("1000000 lines of the generator", Limit::Generated),
+    ("1000000 lines of the generator, of one to four attributes", Limit::Generated),
     ("10000 records in a file, and in one reply", Limit::Found),
     (
         "one to twelve levels, and one more where there may be",
@@ -76,7 +76,7 @@ fn reach(alloc: Global, limit: Limit) -> Result<(), Missed> {
     match limit {
         Limit::Spaces => spaces::all_spaces(alloc),
         Limit::Lines => searches::many_lines(alloc),
-        Limit::Generated => generated::longest_text(alloc),
+        Limit::Generated => generated::longest_texts(alloc),
         Limit::Found => found::many_found(alloc),
         Limit::Heights => heights::each_height(alloc),
         Limit::TidiedHeights => heights::each_height_tidied(alloc),
