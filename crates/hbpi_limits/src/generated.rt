@@ -2,6 +2,7 @@
 
 use crate::calls::{run_words, zeros};
 use crate::missed::Missed;
+use hb_disk::MemDisk;
 use std::alloc::Global;
 
 /// The words for one of each number of attributes, how many bytes it has, and a sum of them in which each one's place counts, by a
@@ -13,9 +14,15 @@ const LONGEST: [(&str, usize, u64); 4] = [
     ("gen 1 1000000 4", 30_868_509, 15_640_263_640_816_413_717),
 ];
 
-/// Puts one, and compares.
-fn is_put(alloc: Global, call: &'static str, bytes: usize, sum: u64) -> Result<(), Missed> {
-    let finished = run_words(alloc, call, "", zeros(alloc, 0)?)?;
+/// Runs the program over the disk, whose output has to have so many bytes and this sum.
+pub(crate) fn is_put(
+    alloc: Global,
+    call: &'static str,
+    bytes: usize,
+    sum: u64,
+    disk: MemDisk,
+) -> Result<MemDisk, Missed> {
+    let finished = run_words(alloc, call, "", disk)?;
     let text = finished.sink.bytes();
     let mut found: u64 = 0;
     for byte in text {
@@ -23,7 +30,7 @@ fn is_put(alloc: Global, call: &'static str, bytes: usize, sum: u64) -> Result<(
     }
     let status = finished.status.code();
     if status == 0 && text.len() == bytes && found == sum {
-        return Ok(());
+        return Ok(finished.disk);
     }
     Err(Missed::Call {
         call,
@@ -35,7 +42,7 @@ fn is_put(alloc: Global, call: &'static str, bytes: usize, sum: u64) -> Result<(
 /// Puts each.
 pub(crate) fn longest_texts(alloc: Global) -> Result<(), Missed> {
     for (call, bytes, sum) in LONGEST {
-        is_put(alloc, call, bytes, sum)?;
+        is_put(alloc, call, bytes, sum, zeros(alloc, 0)?)?;
     }
     Ok(())
 }
