@@ -90,6 +90,7 @@ pub(crate) fn tell<R: Threads + Wait + Sync>(rt: &HostRuntime, threads: &R) -> i
     let pair = pair.call(rt, threads, CREATE, "")?;
     let pair = in_pieces(rt, threads, pair, "run", FIRST)?;
     let pair = in_pieces(rt, threads, pair, "drive", SECOND)?;
+    let pair = pair.call(rt, threads, "map", "")?;
     pair.call_that_changes_nothing(rt, threads, "dry 1", FIRST)?;
     pair.call_that_changes_nothing(rt, threads, "gen 1 1 1", "")?;
     let pair = pair.call(rt, threads, "drive", FILL)?;

@@ -51,8 +51,14 @@ const LIMITS: [(&str, Limit); 11] = [
         "1000000 lines, and 500000 records in one reply",
         Limit::Lines,
     ),
-    ("1000000 lines of the generator, of one to four attributes", Limit::Generated),
-    ("13000 records in a file of 3000 pages and more, and in one reply", Limit::Found),
+    (
+        "1000000 lines of the generator, of one to four attributes",
+        Limit::Generated,
+    ),
+    (
+        "13000 records in a file of 3000 pages and more, and in one reply",
+        Limit::Found,
+    ),
     (
         "one to twelve levels, and one more where there may be",
         Limit::Heights,
