@@ -9,6 +9,7 @@
 #![tactic(auto)]
 
 mod beside;
+mod edges;
 mod failing;
 mod lost;
 mod making;
@@ -21,5 +22,9 @@ fn main(rt: HostRuntime) -> io::Result<()> {
     story::tell(&rt, &rt)?;
     places::tell(&rt)?;
     making::tell(&rt, &rt)?;
-    failing::tell(&rt, &rt)
+    failing::tell(&rt, &rt)?;
+    edges::tell(&rt, &rt)?;
+    println!(rt; "as this process was called")?;
+    let status = hbpi::run_process(&rt, &rt).code();
+    println!(rt; "status {status}")
 }

@@ -5,12 +5,13 @@ use crate::missed::Missed;
 use std::alloc::Global;
 
 /// How many records are put in.
-const COUNT: u64 = 10_000;
+const COUNT: u64 = 13_000;
 
-/// The words that make a file of 1,024 pages, of which some 400 are needed, and its bytes. A log area has room for all changes.
-const WORDS: &str = "create 2 1024 4194304 48 256";
+/// The words that make a file of 8,192 pages of six records each, and its bytes. Some 3,000 are needed, and 2,167 at least. A log area
+/// has room for all changes, so the next call opens the file by a log that touches each of these pages.
+const WORDS: &str = "create 2 8192 4194304 6 256";
 
-const SIZE: usize = 8192 + 2 * 4_194_304 + 1024 * 4096;
+const SIZE: usize = 8192 + 2 * 4_194_304 + 8192 * 4096;
 
 /// The second value of the point with this first value.
 fn second_of(first: u64) -> u64 {
@@ -27,9 +28,9 @@ fn add_inserts(script: &mut Script) -> Result<(), Missed> {
         write!(script.output, "{line} ok\n")?;
     }
     for _ in 0..COUNT {
-        write!(script.text, "step 1x8 p\n")?;
+        write!(script.text, "step 1x10 px3\n")?;
     }
-    script.end("step 1x9000\n")?;
+    script.end("step 1x200000\n")?;
     Ok(())
 }
 
@@ -47,7 +48,7 @@ fn count_of(most: u64) -> u64 {
 /// Searches for the records whose second value is at most this, in the order of their first values.
 fn add_search(script: &mut Script, most: u64) -> Result<(), Missed> {
     let (line, count) = (script.next_line()?, count_of(most));
-    write!(script.text, "1 search 0 9999 0 {most}\n")?;
+    write!(script.text, "1 search 0 {COUNT} 0 {most}\n")?;
     write!(script.output, "{line} box {count}\n")?;
     for first in 0..COUNT {
         let second = second_of(first);
@@ -68,7 +69,7 @@ pub(crate) fn many_found(alloc: Global) -> Result<(), Missed> {
     for most in [10_006, 4999, 0] {
         add_search(&mut script, most)?;
     }
-    script.end("step 1x20000\n")?;
+    script.end("step 1x200000\n")?;
     drive(alloc, &script, disk)?;
     Ok(())
 }

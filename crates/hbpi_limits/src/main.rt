@@ -13,6 +13,7 @@ mod fields;
 mod found;
 mod free_pages;
 mod generated;
+mod great;
 mod heights;
 mod missed;
 mod searches;
@@ -35,12 +36,13 @@ enum Limit {
     TidiedHeights,
     Pages,
     FreePages,
+    Great,
     Rules,
     Asks,
 }
 
 /// Each limit, and what its line says.
-const LIMITS: [(&str, Limit); 10] = [
+const LIMITS: [(&str, Limit); 11] = [
     (
         "files of three levels that are posted, and sets, of one to four attributes",
         Limit::Spaces,
@@ -49,8 +51,14 @@ const LIMITS: [(&str, Limit); 10] = [
         "1000000 lines, and 500000 records in one reply",
         Limit::Lines,
     ),
-    ("1000000 lines of the generator", Limit::Generated),
-    ("10000 records in a file, and in one reply", Limit::Found),
+    (
+        "1000000 lines of the generator, of one to four attributes",
+        Limit::Generated,
+    ),
+    (
+        "13000 records in a file of 3000 pages and more, and in one reply",
+        Limit::Found,
+    ),
     (
         "one to twelve levels, and one more where there may be",
         Limit::Heights,
@@ -65,6 +73,10 @@ const LIMITS: [(&str, Limit); 10] = [
         Limit::FreePages,
     ),
     (
+        "4865 pages, checked, tidied, mapped and searched whole",
+        Limit::Great,
+    ),
+    (
         "each rule that the last of 1000 pages may break",
         Limit::Rules,
     ),
@@ -76,12 +88,13 @@ fn reach(alloc: Global, limit: Limit) -> Result<(), Missed> {
     match limit {
         Limit::Spaces => spaces::all_spaces(alloc),
         Limit::Lines => searches::many_lines(alloc),
-        Limit::Generated => generated::longest_text(alloc),
+        Limit::Generated => generated::longest_texts(alloc),
         Limit::Found => found::many_found(alloc),
         Limit::Heights => heights::each_height(alloc),
         Limit::TidiedHeights => heights::each_height_tidied(alloc),
         Limit::Pages => sizes::many_pages(alloc),
         Limit::FreePages => free_pages::all_are_taken(alloc),
+        Limit::Great => great::all_are_seen(alloc),
         Limit::Rules => audits::each_rule(alloc),
         Limit::Asks => asks::pages_are_asked(alloc),
     }

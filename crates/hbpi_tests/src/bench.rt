@@ -6,8 +6,8 @@ use crate::files::{
     stands_by,
 };
 use crate::looks::{
-    answered_by, are_untouched, calls_of, have_called, have_stopped, height_of, said_by_all,
-    turns_of, yes,
+    answered_by, are_untouched, are_within, calls_of, have_called, have_stopped, height_of,
+    said_by_all, turns_of, yes,
 };
 use crate::rows::{Row, byte_at, number_at, word_at};
 use crate::runs::{Asked, Left, Manner, NO_TROUBLE, Trouble, left_of};
@@ -85,6 +85,7 @@ impl Bench {
                 self.trouble.rot = Some((number?, at, byte));
             }
             "held" => self.trouble.manner = Manner::Held,
+            "gathered" => self.trouble.manner = Manner::Gathered(number?),
             _ => self.trouble.manner = Manner::Crossed,
         }
         Some(())
@@ -159,6 +160,7 @@ impl Bench {
             "replies" => replies_of(alloc, lefts),
             "untouched" => yes(alloc, are_untouched(lefts, self.file.as_slice())),
             "met" => yes(alloc, lefts.iter().all(|left| left.met)),
+            "within" => yes(alloc, are_within(lefts, number_at(row.words, 0)?)),
             _ => yes(alloc, have_called(lefts, number_at(row.words, 0)?)),
         }
     }
@@ -211,15 +213,14 @@ pub(crate) fn answer<R: Threads + Wait + Sync>(
         "disk" | "load" | "put" | "cut" | "go" | "image" | "save" => {
             done(alloc, bench.change(row.verb, row.words))
         }
-        "source" | "sink" | "call" | "rot" | "held" | "crossed" => {
+        "source" | "sink" | "call" | "rot" | "held" | "crossed" | "gathered" => {
             done(alloc, bench.trouble(row.verb, row.words))
         }
         "try" | "do" | "fails" | "reopen" => bench.run(rt, row),
         "crashes" => said_behind(rt, alloc, bench.lefts.as_slice(), row),
         "tallied" => tallied(rt, alloc, row),
-        "calls" | "called" | "stopped" | "answered" | "replies" | "untouched" | "met" => {
-            bench.look_at_runs(row)
-        }
+        "calls" | "called" | "within" | "stopped" | "answered" | "replies" | "untouched" | "met" =>
+            { bench.look_at_runs(row) }
         "bytes" | "filled" | "frames" | "height" | "same" | "size" | "turns" => {
             bench.look_at_file(row)
         }

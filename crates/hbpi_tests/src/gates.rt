@@ -1,7 +1,7 @@
-//! A gate at which two sessions meet.
+//! Gates at which sessions meet.
 
 use hb_run::{Gate, HoldGate, Place};
-use std::sync::atomic::{AtomicBool, Ordering};
+use std::sync::atomic::{AtomicBool, AtomicU64, Ordering};
 use std::thread::yield_now;
 
 /// A gate at which actor 2 begins once actor 1 is between two turns. There that one is held, until actor 2 has ended.
@@ -44,5 +44,53 @@ impl Gate for CrossGate {
             _ => {}
         }
         self.hold.at(actor, place);
+    }
+}
+
+/// A gate at which so many sessions are held at once: each between its first two turns, until all of them are there, but not for ever.
+#[derive(Drop)]
+pub(crate) struct GatherGate {
+    count: u64,
+    came: AtomicU64,
+    missed: AtomicBool,
+}
+
+impl GatherGate {
+    /// A gate at which nobody was.
+    pub(crate) fn new(count: u64) -> GatherGate {
+        GatherGate {
+            count,
+            came: AtomicU64::new(0),
+            missed: AtomicBool::new(false),
+        }
+    }
+
+    /// Whether so many were there at once.
+    pub(crate) fn met(&self) -> bool {
+        self.are_there() && !self.missed.load(Ordering::SeqCst)
+    }
+
+    fn are_there(&self) -> bool {
+        self.came.load(Ordering::SeqCst) >= self.count
+    }
+
+    /// Waits till they are there.
+    fn wait(&self) {
+        for _ in 0..10_000_000 {
+            if self.are_there() || self.missed.load(Ordering::SeqCst) {
+                return;
+            }
+            yield_now();
+        }
+        self.missed.store(true, Ordering::SeqCst);
+    }
+}
+
+impl Gate for GatherGate {
+    fn at(&self, actor: u8, place: Place) {
+        if let (1..=16, Place::Between) = (actor, place) {
+            let _before = self.came.fetch_add(1, Ordering::SeqCst);
+            self.wait();
+        }
     }
 }

@@ -1,6 +1,6 @@
 //! Runs of the program over disks in memory.
 
-use crate::gates::CrossGate;
+use crate::gates::{CrossGate, GatherGate};
 use hb_disk::{Disk, MemDisk, RotDisk};
 use hb_outside::{MemSink, MemSource};
 use hb_run::{FreeGate, Gate, HoldGate};
@@ -34,6 +34,8 @@ pub(crate) enum Manner {
     Held,
     /// The same, and session 2 begins behind a turn of session 1.
     Crossed,
+    /// So many sessions, until all of them are.
+    Gathered(u64),
 }
 
 /// What goes wrong in a run.
@@ -194,6 +196,19 @@ fn crossed<R: Threads + Wait + Sync>(
     left_by(alloc, finished, gate.met())
 }
 
+/// A run of which so many sessions are held at once.
+fn gathered<R: Threads + Wait + Sync>(
+    rt: &R,
+    alloc: Global,
+    asked: &Asked,
+    disk: MemDisk,
+    count: u64,
+) -> Option<Left> {
+    let gate = GatherGate::new(count);
+    let finished = gated(rt, alloc, asked, disk, &gate)?;
+    left_by(alloc, finished, gate.met())
+}
+
 /// What a run over these bytes leaves.
 pub(crate) fn left_of<R: Threads + Wait + Sync>(
     rt: &R,
@@ -207,5 +222,6 @@ pub(crate) fn left_of<R: Threads + Wait + Sync>(
         (None, Manner::Free) => free(rt, alloc, asked, disk),
         (None, Manner::Held) => held(rt, alloc, asked, disk),
         (None, Manner::Crossed) => crossed(rt, alloc, asked, disk),
+        (None, Manner::Gathered(count)) => gathered(rt, alloc, asked, disk, count),
     }
 }
