@@ -18,14 +18,16 @@ try() {
 }
 
 says "drive" "1 ok/2 found =a/3 found =b/order 1 2 3 (0)" "$(try)"
-# each call on the file, as its name, which one of that name it is, and whether it comes behind the opening, and behind the force
-awk -F'(' '{ n[$1]++ } /^read\(0</ { place = "run" } /\/f>/ { print $1, n[$1], place ? place : "opening"
+# each call on the file, as its name, which one of that name it is, and whether it comes behind the opening, and behind the force.
+# The reads of a whole log area only look whether it has its zeros already: where one fails, they are written
+awk -F'(' '{ n[$1]++ } /^read\(0</ { place = "run" } /\/f>/ { print $1, n[$1], /^pread64.*, 65536, [0-9]+\) / ? "zeroing" : place ? place : "opening"
     if (place && $1 == "fdatasync" && ++synced == 2) place = "flush" }' trace >calls
 says "writes and syncs behind the force" "5 5" "$(grep -c 'pwrite64.*flush' calls) $(grep -c 'fdatasync.*flush' calls)"
 while read -r name number place; do
     got=$(try -e inject="$name:error=EIO:when=$number")
     behind=$(sed '1,/INJECTED/d' trace | grep -c '^[pf].*/f>')
     case $place,$name in
+    zeroing,*) want="1 ok/2 found =a/3 found =b/order 1 2 3 (0), then $behind 0" ;;
     opening,*) want="disk fault (6), then 0 1" ;;
     run,pread64) want="1 read fault/2 found =a/3 none/order 2 3/disk fault (6), then $behind 1" ;;
     run,*) want="1 unanswered/2 unanswered/3 unanswered/order | 1/disk fault (6), then 0 1" ;;
@@ -35,7 +37,7 @@ while read -r name number place; do
     left=$(drive f '1 lookup 5/1 lookup 6/step 1x6')
     case $place,$left in
     "run,1 found =a/2 found =b/order 1 2 (0)") want=$left ;;
-    flush,*) want="1 found =a/2 found =b/order 1 2 (0)" ;;
+    flush,* | zeroing,*) want="1 found =a/2 found =b/order 1 2 (0)" ;;
     *) want="1 found =a/2 none/order 1 2 (0)" ;;
     esac
     says "the next opening" "$want" "$left"
@@ -54,7 +56,7 @@ END
 while read -r name number place; do
     [ "$name" = fdatasync ] && continue
     says "$name $number is interrupted" "1 ok/2 found =a/3 found =b/order 1 2 3 (0)" "$(try -e inject="$name:error=EINTR:when=$number")"
-    says "$name $number moves nothing" "6" "$(try -e inject="$name:retval=0:when=$number" >got; sed 's/.*(//; s/).*//' got)"
+    says "$name $number moves nothing" "$([ "$place" = zeroing ] && echo 0 || echo 6)" "$(try -e inject="$name:retval=0:when=$number" >got; sed 's/.*(//; s/).*//' got)"
 done <<END
 $(cat calls)
 END

@@ -112,7 +112,7 @@ def split_marks():
 
 STEPS = [
     ("takes the line", "the point 15 is locked"), ("at the root", "latches 3"), ("goes down", "latches 1, lets 3 go"), ("goes aside", "latches 2, puts 15"),
-    ("forces", "the group is durable"), ("answers", "`1 ok`"),
+    ("forces", "the group is durable"), ("answers", "1 ok"),
 ]
 # rows of the picture: a name, the first and the last step, what is written on the bar, and its page for the colour
 BARS = [
@@ -144,10 +144,10 @@ def latch_marks():
 PAGES, LOG, PLACE = 64, 65536, 4096
 PARTS = [("superblock 0", PLACE), ("superblock 1", PLACE), ("log area 0", LOG), ("log area 1", LOG), ("page 1", PLACE), ("page 2", PLACE), ("..", PLACE * (PAGES - 3)), (f"page {PAGES}", PLACE)]
 INSIDE = [
-    ("a superblock", ["gate 1", "name, version 9", "turn 1", "layout 15", "root, pages, chain 16"]),
+    ("a superblock", ["gate 1", "name, version 9", "turn 1", "layout 14", "root, pages, chain 16"]),
     ("frames of a log", ["gate 1", "length 4", "groups", "gate 1", "length 4", "groups", "00 .."]),
     ("a group of a frame", ["images 1", "number 4", "page image 4,096", "..", "operation"]),
-    ("a page of records", ["01 1", "level 1", "K 1", "00 1", "box 16 K", "cuts and leaves", "zeros"]),
+    ("a page of records", ["live 1", "level 1", "K 1", "zero 1", "box 16 K", "cuts and leaves", "zeros"]),
 ]
 
 
