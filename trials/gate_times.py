@@ -67,10 +67,10 @@ class Job:
 
 
 class Watch:
-    """The provers that ran so far. A process is known by its number and by when it began."""
+    """The provers that a run of the gate began so far. A process is known by its number and by when it began."""
 
-    def __init__(self):
-        self.jobs = {}
+    def __init__(self, gate):
+        self.gate, self.jobs = str(gate), {}
 
     def look(self, now):
         for pid in filter(str.isdigit, os.listdir("/proc")):
@@ -79,7 +79,7 @@ class Watch:
                 continue
             name = pid, fields[19]
             if name not in self.jobs:
-                found = job_of(pid, fields[1])
+                found = fields[1] == self.gate and job_of(pid, fields[1])
                 if not found:
                     continue
                 self.jobs[name] = Job(*found, now)
@@ -153,8 +153,9 @@ def write(text):
 
 def main(words):
     command = ["rt", "ci"] + ([] if "--kept" in words else ["--anew"])
-    watch, begun = Watch(), time.monotonic()
+    begun = time.monotonic()
     gate = subprocess.Popen(command, cwd=ROOT, stdin=subprocess.DEVNULL)
+    watch = Watch(gate.pid)
     while gate.poll() is None:
         watch.look(time.monotonic())
         time.sleep(POLL)
