@@ -6,8 +6,8 @@ use crate::files::{
     stands_by,
 };
 use crate::looks::{
-    answered_by, are_untouched, are_within, calls_of, have_called, have_stopped, height_of,
-    said_by_all, turns_of, yes,
+    answered_by, are_untouched, calls_of, have_called, have_stopped, height_of, said_by_all,
+    turns_of, yes,
 };
 use crate::rows::{Row, byte_at, number_at, word_at};
 use crate::runs::{Asked, Left, Manner, NO_TROUBLE, Trouble, left_of};
@@ -160,7 +160,6 @@ impl Bench {
             "replies" => replies_of(alloc, lefts),
             "untouched" => yes(alloc, are_untouched(lefts, self.file.as_slice())),
             "met" => yes(alloc, lefts.iter().all(|left| left.met)),
-            "within" => yes(alloc, are_within(lefts, number_at(row.words, 0)?)),
             _ => yes(alloc, have_called(lefts, number_at(row.words, 0)?)),
         }
     }
@@ -219,8 +218,9 @@ pub(crate) fn answer<R: Threads + Wait + Sync>(
         "try" | "do" | "fails" | "reopen" => bench.run(rt, row),
         "crashes" => said_behind(rt, alloc, bench.lefts.as_slice(), row),
         "tallied" => tallied(rt, alloc, row),
-        "calls" | "called" | "within" | "stopped" | "answered" | "replies" | "untouched" | "met" =>
-            { bench.look_at_runs(row) }
+        "calls" | "called" | "stopped" | "answered" | "replies" | "untouched" | "met" => {
+            bench.look_at_runs(row)
+        }
         "bytes" | "filled" | "frames" | "height" | "same" | "size" | "turns" => {
             bench.look_at_file(row)
         }

@@ -47,11 +47,6 @@ pub(crate) fn have_called(lefts: &[Left], count: u64) -> bool {
     lefts.iter().all(|left| left.disk.calls() >= count)
 }
 
-/// Whether each made so many calls at most.
-pub(crate) fn are_within(lefts: &[Left], count: u64) -> bool {
-    lefts.iter().all(|left| left.disk.calls() <= count)
-}
-
 /// Whether each wrote nothing, and left these bytes.
 pub(crate) fn are_untouched(lefts: &[Left], bytes: &[u8]) -> bool {
     lefts.iter().all(|left| left.disk.clock() == 0 && left.disk.bytes() == bytes)
