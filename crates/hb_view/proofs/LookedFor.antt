@@ -14,8 +14,8 @@ use Rattle.hb_view.specs.declared.leaves.LeafView.{LeafView}
 use Rattle.hb_view.specs.declared.leaves.LeafView.TheVariants as views
 use Rattle.hb_view.specs.Naming.{CountsLeaf, StopsAtLeaf, named_box}
 use Rattle.hb_view.specs.Roots.{tree_there, rest_there, IsCutAt, IsListAt}
-use Rattle.hb_view.specs.Views.{ShowsLeaf}
-use Rattle.hb_view.proofs.Walked.{many_counted, LeafWithin, leaf_tip, leaf_left, leaf_right}
+use Rattle.hb_view.specs.Views.{LeafWithin, ShowsLeaf}
+use Rattle.hb_view.proofs.Walked.{many_counted, leaf_tip, leaf_left, leaf_right}
 
 -- ---- the leaves of both sides
 

@@ -15,7 +15,7 @@ use Rattle.hb_page_codec.specs.ReadingFields.{record_at}
 use Rattle.hb_view.specs.declared.leaves.LeafView.{LeafView}
 use Rattle.hb_view.specs.Lists.{records_there}
 use Rattle.hb_view.specs.Roots.{tree_there, rest_there, IsCutAt, IsListAt}
-use Rattle.hb_view.specs.Views.{leaf_view, ShowsLeaf, TellsBody, FindsAmong}
+use Rattle.hb_view.specs.Views.{LeafWithin, leaf_view, ShowsLeaf, TellsBody, FindsAmong}
 use Rattle.hb_lemmas.proofs.Options.{bind_some}
 use Rattle.hb_lemmas.specs.Options.{◌>>=◌}
 use Rattle.hb_view.specs.Behind.{list_or}
@@ -47,10 +47,6 @@ shows_right k bytes left rest axis value at p area above view box cut r e is_are
     }
 
 -- ---- what is so of the leaf at a point
-
--- it is so of the leaf at the point in a tree, whatever the tree's box
-abbrev pub LeafWithin : (Leaf → Type 0) → Tree → List ℕ → Type 0
-LeafWithin P t p = (area : Area) → IsArea area → IsWellCut t area → Holds area p → (l : Placed) × (first_at p (leaves_of t area) ≡ Some l) × P l.leaf
 
 module _ (P : Leaf → Type 0) where
   pub leaf_tip : (t : Tree) (leaf : Leaf) (p : List ℕ) → t ≡ Tip leaf → P leaf → LeafWithin P t p

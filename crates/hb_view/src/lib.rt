@@ -35,10 +35,12 @@ mod order;
 mod roots;
 mod rules;
 mod skipping;
+mod splicing;
 mod threads;
 mod trees;
 mod views;
 mod walking;
 
 pub use leaves::LeafView;
+pub use splicing::splice;
 pub use views::PageView;
