@@ -17,6 +17,9 @@
 //! than its bytes allow. A cut takes ten of them, so a page has fewer than 410 cuts one below the other, which is what
 //! bounds the recursions.
 //!
+//! `splice` changes a page where it stands: a body is put at a point, or taken from it. Contracts see it as the page that the
+//! bytes spell then.
+//!
 //! `checked` trusts no byte: it tests what `decode` tests, in one pass. The other calls know that the bytes spell a page,
 //! and read again only what they need.
 #![tactic(auto)]
@@ -28,6 +31,7 @@ mod checking;
 mod corners;
 mod fields;
 mod heads;
+pub mod laws;
 mod leaves;
 mod lists;
 mod naming;

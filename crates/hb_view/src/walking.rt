@@ -42,54 +42,6 @@ pub(crate) fn descend(tree: &TreeView<'_>, bounds: &mut Bounds, p: &[u64]) -> Le
     }
 }
 
-/// The body of the point's record in the leaf whose box holds the point. None where that leaf names a page, or lacks
-/// the point.
-pub(crate) fn find_in<'a>(tree: &TreeView<'a>, p: &[u64]) -> Option<&'a [u8]>
-    requires { length p.now ≡ tree.now.k.number }
-    ensures found { (area : Extent) → IsArea area → IsWellCut (tree_seen tree.now) area → Holds area p.now →
-        TellsBody p.now (first_at p.now (leaves_of (tree_seen tree.now) area)) (option_map (λ b. b.now) result) }
-    ensures short { IfSome result (λ b. length b.now ≤ BMAX) }
-{
-    let k = tree.k;
-    match root_of(tree) {
-        Root::Cut { axis, value, left } => {
-            let left = TreeView { k, bytes: left };
-            if p[usize::from(axis)] < value {
-                find_in(&left, p)
-            } else {
-                let right = rest_of(&left);
-                find_in(&TreeView { k, bytes: right }, p)
-            }
-        }
-        Root::Records { count, first } => body_among(&ListView { k, count, first }, p),
-        Root::Child { .. } => None,
-        Root::Sibling { .. } => None,
-    }
-}
-
-/// How many records the leaf has whose box holds the point; none where it names a page.
-pub(crate) fn count_in(tree: &TreeView<'_>, p: &[u64]) -> u16
-    requires { length p.now ≡ tree.now.k.number }
-    ensures { (area : Extent) → IsArea area → IsWellCut (tree_seen tree.now) area → Holds area p.now →
-        CountsLeaf (first_at p.now (leaves_of (tree_seen tree.now) area)) result }
-{
-    let k = tree.k;
-    match root_of(tree) {
-        Root::Cut { axis, value, left } => {
-            let left = TreeView { k, bytes: left };
-            if p[usize::from(axis)] < value {
-                count_in(&left, p)
-            } else {
-                let right = rest_of(&left);
-                count_in(&TreeView { k, bytes: right }, p)
-            }
-        }
-        Root::Records { count, .. } => count,
-        Root::Child { .. } => 0,
-        Root::Sibling { .. } => 0,
-    }
-}
-
 /// The records of the leaf to which the point leads. None where that leaf names a page.
 pub(crate) fn list_in<'a>(tree: &TreeView<'a>, p: &[u64]) -> Option<ListView<'a>>
     requires { length p.now ≡ tree.now.k.number }
@@ -111,6 +63,32 @@ pub(crate) fn list_in<'a>(tree: &TreeView<'a>, p: &[u64]) -> Option<ListView<'a>
         Root::Records { count, first } => Some(ListView { k, count, first }),
         Root::Child { .. } => None,
         Root::Sibling { .. } => None,
+    }
+}
+
+/// The body of the point's record in the leaf whose box holds the point. None where that leaf names a page, or lacks
+/// the point.
+pub(crate) fn find_in<'a>(tree: &TreeView<'a>, p: &[u64]) -> Option<&'a [u8]>
+    requires { length p.now ≡ tree.now.k.number }
+    ensures found { (area : Extent) → IsArea area → IsWellCut (tree_seen tree.now) area → Holds area p.now →
+        TellsBody p.now (first_at p.now (leaves_of (tree_seen tree.now) area)) (option_map (λ b. b.now) result) }
+    ensures short { IfSome result (λ b. length b.now ≤ BMAX) }
+{
+    match list_in(tree, p) {
+        Some(list) => body_among(&list, p),
+        None => None,
+    }
+}
+
+/// How many records the leaf has whose box holds the point; none where it names a page.
+pub(crate) fn count_in(tree: &TreeView<'_>, p: &[u64]) -> u16
+    requires { length p.now ≡ tree.now.k.number }
+    ensures { (area : Extent) → IsArea area → IsWellCut (tree_seen tree.now) area → Holds area p.now →
+        CountsLeaf (first_at p.now (leaves_of (tree_seen tree.now) area)) result }
+{
+    match list_in(tree, p) {
+        Some(list) => list.count,
+        None => 0,
     }
 }
 
