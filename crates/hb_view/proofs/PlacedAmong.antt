@@ -97,15 +97,8 @@ at_equal k count i first p from behind r lt fits e here rising so =
       counted = refl;
     }
 
--- a place without a record of the point, as it is handed on
-pub record IsGap (from : List ℕ) (from' behind : List ℕ) (held : ℕ) : Type 0 where
-  pub from_is : from' ≡ from
-  pub behind_is : behind ≡ from
-  pub none : held ≡ 0
-
-at_gap : (k count i : ℕ) (first p from from' behind : List ℕ) (held : ℕ) → IsGap from from' behind held → All (IsAt Greater p) (records_there k (count - i) from) → HasPassed k count i first p from
-    → IsPlaceAmong p (records_there k count first) first from' behind held
-at_gap k count i first p from from' behind held gap greater so = record {
+at_gap : (k count i : ℕ) (first p from : List ℕ) → All (IsAt Greater p) (records_there k (count - i) from) → HasPassed k count i first p from → IsPlaceAmong p (records_there k count first) first from from 0
+at_gap k count i first p from greater so = record {
   before = so.before;
   here = [];
   after = records_there k (count - i) from;
@@ -113,26 +106,41 @@ at_gap k count i first p from from' behind held gap greater so = record {
   lesser = so.lesser;
   same = All-nil (IsAt Equal p);
   greater = greater;
-  in_front = so.in_front ∙ ap (λ (b : List ℕ). flat_map record_bytes so.before ++ b) (sym gap.from_is);
-  there = gap.from_is ∙ sym gap.behind_is;
-  counted = gap.none;
+  in_front = so.in_front;
+  there = refl;
+  counted = refl;
 }
 
-pub at_greater : (k count i : ℕ) (first p from from' behind rest : List ℕ) (held : ℕ) (r : Record) → IsGap from from' behind held → i < count → record_at k from ≡ Some (r, rest) → point_cmp r.key p ≡ Greater → AllPairs Precedes (records_there k count first) → HasPassed k count i first p from
-    → IsPlaceAmong p (records_there k count first) first from' behind held
-at_greater k count i first p from from' behind rest held r gap lt e here rising so =
-    let after = records_there k (count - (i + 1)) rest in
-    let left : records_there k (count - i) from ≡ r ∷ after = left_list k count i from r rest lt so.there e in
+pub at_greater : (k count i : ℕ) (first p from behind : List ℕ) (r : Record) → i < count → record_at k from ≡ Some (r, behind) → point_cmp r.key p ≡ Greater → AllPairs Precedes (records_there k count first) → HasPassed k count i first p from
+    → IsPlaceAmong p (records_there k count first) first from from 0
+at_greater k count i first p from behind r lt e here rising so =
+    let after = records_there k (count - (i + 1)) behind in
+    let left : records_there k (count - i) from ≡ r ∷ after = left_list k count i from r behind lt so.there e in
     let all : records_there k count first ≡ so.before ++ (r ∷ after) = so.all ∙ ap (λ (rs : List Record). so.before ++ rs) left in
     let rise = pairs_first Precedes r after (pairs_behind so.before (r ∷ after) (subst (λ (rs : List Record). AllPairs Precedes rs) all rising)) in
     let greater : All (IsAt Greater p) (r ∷ after) = All-cons (IsAt Greater p) r after here (behind_greater p r after here rise) in
-    at_gap k count i first p from from' behind held gap (subst (λ (rs : List Record). All (IsAt Greater p) rs) (sym left) greater) so
+    at_gap k count i first p from (subst (λ (rs : List Record). All (IsAt Greater p) rs) (sym left) greater) so
 
-pub at_end : (k count i : ℕ) (first p from from' behind : List ℕ) (held : ℕ) → IsGap from from' behind held → count ≤ i → HasPassed k count i first p from → IsPlaceAmong p (records_there k count first) first from' behind held
+pub at_end : (k count i : ℕ) (first p from : List ℕ) → count ≤ i → HasPassed k count i first p from → IsPlaceAmong p (records_there k count first) first from from 0
 unfolding many_at
-at_end k count i first p from from' behind held gap le so =
+at_end k count i first p from le so =
     let none : 0 ≡ count - i = omega arith in
-    at_gap k count i first p from from' behind held gap (subst (λ n. All (IsAt Greater p) (records_there k n from)) none (All-nil (IsAt Greater p))) so
+    at_gap k count i first p from (subst (λ n. All (IsAt Greater p) (records_there k n from)) none (All-nil (IsAt Greater p))) so
+
+-- a place as it is handed on
+pub handed : (p first from behind from' behind' : List ℕ) (held held' : ℕ) (records : List Record) → IsPlaceAmong p records first from behind held → from' ≡ from → behind' ≡ behind → held' ≡ held → IsPlaceAmong p records first from' behind' held'
+handed p first from behind from' behind' held held' records place ef eb eh = record {
+  before = place.before;
+  here = place.here;
+  after = place.after;
+  all = place.all;
+  lesser = place.lesser;
+  same = place.same;
+  greater = place.greater;
+  in_front = place.in_front ∙ ap (λ (b : List ℕ). flat_map record_bytes place.before ++ b) (sym ef);
+  there = ef ∙ place.there ∙ ap (λ (b : List ℕ). flat_map record_bytes place.here ++ b) (sym eb);
+  counted = eh ∙ place.counted;
+}
 
 -- ---- a body put there
 

@@ -36,6 +36,7 @@ mod leaves;
 mod lists;
 mod naming;
 mod order;
+mod places;
 mod roots;
 mod rules;
 mod skipping;

@@ -1,21 +1,18 @@
 //! The records of a leaf, from the front of bytes.
-ghost use Rattle.std.specs.Prelude.{◌≡◌, ◌*◌, ◌≤◌, length, AllPairs, IfSome, option_map};
+ghost use Rattle.std.specs.Prelude.{◌≡◌, ◌*◌, ◌≤◌, length, IfSome, option_map};
 ghost use Rattle.hb_page_codec.specs.Reading.{ReadsAs};
 ghost use Rattle.hb_page_codec.specs.ReadingFields.{record_at};
 ghost use Rattle.hb_view.specs.Corners.{point_there};
-ghost use Rattle.hb_frag.specs.Rules.{Precedes};
 ghost use Rattle.hb_view.specs.Seen.{list_seen, after_seen};
-ghost use Rattle.hb_view.specs.Spots.{IsPlaceAmong};
 ghost use Rattle.hb_view.specs.Views.{FindsAmong};
 
-use crate::corners::{compare, is_point, point_read};
+use crate::corners::{is_point, point_read};
 use crate::fields::body_of;
 use crate::skipping::behind_list;
 use crate::trees::ListView;
 use hb_page_codec::point_of;
 use hb_space::form::BMAX;
 use hb_space::{Attributes, Point};
-use std::cmp::Ordering;
 
 /// A record as its point and the bytes of its body, and the bytes behind it.
 #[tactic(auto, unfolding(hb_page_codec::specs::ReadingFields::record_at))]
@@ -29,7 +26,7 @@ pub(crate) fn entry_of(k: Attributes, bytes: &[u8]) -> Option<(Point, &[u8], &[u
 
 /// A record as the bytes of its point and those of its body, and the bytes behind it.
 #[tactic(auto, unfolding(hb_page_codec::specs::ReadingFields::record_at))]
-fn parts_of(k: Attributes, bytes: &[u8]) -> Option<(&[u8], &[u8], &[u8])>
+pub(crate) fn parts_of(k: Attributes, bytes: &[u8]) -> Option<(&[u8], &[u8], &[u8])>
     ensures reads { ReadsAs (λ x. (record { key = point_there k.number x.0.now; body = x.1.now }, x.2.now)) result (record_at k.number bytes.now) }
     ensures room { IfSome result (λ x. 8 * k.number ≤ length x.0.now) }
     ensures short { IfSome result (λ x. length x.1.now ≤ BMAX) }
@@ -58,56 +55,6 @@ pub(crate) fn body_among<'a>(list: &ListView<'a>, p: &[u64]) -> Option<&'a [u8]>
         }
     }
     None
-}
-
-/// A place among records: the bytes from it on, and those behind the record that the point has there.
-#[derive(Clone, Copy)]
-pub(crate) struct Place<'a> {
-    pub from: &'a [u8],
-    pub behind: &'a [u8],
-    /// How many records the point has there.
-    pub held: u16,
-}
-
-/// The place of the point among records that rise.
-pub(crate) fn place_among<'a>(list: &ListView<'a>, p: &[u64]) -> Place<'a>
-    requires attributes { length p.now ≡ list.now.k.number }
-    requires rising { AllPairs Precedes (list_seen list.now) }
-    ensures { IsPlaceAmong p.now (list_seen list.now) list.now.first.now result.from.now result.behind.now result.held }
-{
-    let mut from = list.first;
-    for _ in 0..list.count {
-        match parts_of(list.k, from) {
-            Some((key, _, behind)) => match compare(list.k, key, p) {
-                Ordering::Less => from = behind,
-                Ordering::Equal => {
-                    return Place {
-                        from,
-                        behind,
-                        held: 1,
-                    };
-                }
-                Ordering::Greater => {
-                    return gap(from);
-                }
-            },
-            None => unreachable!(),
-        }
-    }
-    gap(from)
-}
-
-/// A place where the point has no record.
-fn gap(from: &[u8]) -> Place<'_>
-    ensures from { result.from.now ≡ from.now }
-    ensures behind { result.behind.now ≡ from.now }
-    ensures none { result.held ≡ 0 }
-{
-    Place {
-        from,
-        behind: from,
-        held: 0,
-    }
 }
 
 /// The bytes behind the records.

@@ -12,7 +12,7 @@ ghost use Rattle.hb_view.specs.Spots.{IsSpot, MakesRoom, record_with, replaced};
 ghost use Rattle.hb_view.specs.Views.{IsLiveAnd};
 
 use crate::heads::inside_of;
-use crate::lists::place_among;
+use crate::places::place_among;
 use crate::walking::list_in;
 use hb_outside::give_u16;
 use hb_page_codec::put_record;

@@ -1,5 +1,5 @@
 use Rattle.hb_view.proofs.PlacedAmong.{HasPassed}
-use Rattle.hb_view.proofs.lists.place_among.Given as goal
+use Rattle.hb_view.proofs.places.place_among.Given as goal
 
 -- so far all records had lesser points
 abbrev pub invariant-loop : goal.invariant-loop
