@@ -82,7 +82,7 @@ fn width_of(point: &Point, body: Option<&Body>) -> usize
 /// Puts the record of the point with this body, or no record, in the place of so many bytes.
 fn replace(bytes: &mut [u8], at: usize, was: usize, point: &Point, body: Option<&Body>)
     requires was { at + was ≤ length bytes.old }
-    requires now { at + length (flat_map record_bytes (record_with point.now (option_copied body.entry))) ≤ length bytes.old }
+    requires now { at + length (flat_map record_bytes (record_with point.now (option_copied body))) ≤ length bytes.old }
     ensures { bytes.new ≡ replaced at was (flat_map record_bytes (record_with point.now (option_copied body.entry))) bytes.old }
 {
     let now = width_of(point, body);
@@ -97,7 +97,7 @@ pub fn splice(bytes: &mut [u8; PAGE], point: &Point, body: Option<&Body>)
     // the page is well cut, and its leaf at the point has records in order
     requires ordered { IsLiveAnd (page_spelled bytes.old) (IsOrderedAt point.now) }
     // what it becomes can be spelled
-    requires room { IsLiveAnd (page_spelled bytes.old) (λ page. HasSpelling (Live (spliced point.now (option_copied body.entry) page))) }
+    requires room { IsLiveAnd (page_spelled bytes.old) (λ page. HasSpelling (Live (spliced point.now (option_copied body) page))) }
     // the bytes spell that page
     ensures { IsLiveAnd (page_spelled bytes.old) (λ page. page_of_bytes bytes.new ≡ Some (Live (spliced point.now (option_copied body.entry) page))) }
 {
