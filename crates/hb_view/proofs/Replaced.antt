@@ -1,19 +1,23 @@
 -- Bytes with others in the place of some, and what a page spells then.
-use Rattle.std.proofs.Common.{◌≡◌, ℕ, ◌+◌, ◌-◌, ◌<◌, ◌≤◌, min, List, [], ◌∷◌, ◌++◌, length, take, drop, replicate, Option, Some, refl, sym, ap, subst, ◌∙◌, append_assoc, length-append, arith, inl, inr}
+use Rattle.std.proofs.Common.{◌≡◌, ℕ, ◌+◌, ◌-◌, ◌^◌, ◌<◌, ◌≤◌, min, List, [], ◌∷◌, ◌++◌, length, take, drop, replicate, Option, Some, None, refl, sym, ap, subst, ◌∙◌, append_assoc, length-append, arith, inl, inr}
 use Rattle.std.specs.List.{flat_map}
 use Rattle.std.proofs.Math.Seq.{take-append-add}
+use borrow.Rule.Slice.PartMut.{put_mid, Post-is}
 use Rattle.std.proofs.lemmas.Bool.{cases_lt}
 use Rattle.std.proofs.lemmas.List.{append-nil, drop-drop, drop_at, length-drop, length-replicate, length-take, length-take-le, replicate-append-replicate, take-append-drop, take-replicate, take_all, take_at}
 use Rattle.hb_lemmas.specs.Numbers.{big_endian}
 use Rattle.hb_lemmas.proofs.Numbers.{length_big_endian}
 use Rattle.hb_space.specs.declared.form.TheConstants.{PAGE}
 use Rattle.hb_frag.specs.declared.pages.LivePage.{LivePage}
-use Rattle.hb_frag.specs.declared.pages.Page.TheVariants.{Live}
+use Rattle.hb_frag.specs.declared.pages.Page.{Page}
+use Rattle.hb_frag.specs.declared.pages.Page.TheVariants.{Live, Free}
 use Rattle.hb_frag.specs.Grammar.{HasSpelling, SpellsPage, page_fields, record_bytes}
 use Rattle.hb_page_codec.specs.ReadingPages.{page_of_bytes}
+use Rattle.hb_page_codec.specs.Writing.{Wrote}
 use Rattle.hb_page_codec.proofs.Facts.PageLaws.{page_again}
 use Rattle.hb_view.specs.Splicing.{spliced}
 use Rattle.hb_view.specs.Spots.{IsSpot, MakesRoom, record_with, replaced}
+use Rattle.hb_view.specs.Views.{IsLiveAnd}
 
 -- ---- room
 
@@ -88,6 +92,17 @@ filled old mid new text at was now room long is =
 pub emptied : (old mid : List ℕ) (at was now : ℕ) → MakesRoom old at was now mid → now ≡ 0 → mid ≡ replaced at was [] old
 emptied old mid at was now room none =
     filled old mid mid [] at was now room (sym none) (sym (take-append-drop at mid) ∙ ap (λ (n : ℕ). take at mid ++ drop n mid) (let e : at ≡ at + now = omega arith in e))
+
+-- a text over a part of the bytes, as a write to the part leaves it
+pub filled_part : (old mid text : List ℕ) (at was now : ℕ) → MakesRoom old at was now mid → length text ≡ now → put_mid at (at + now - at) mid text ≡ replaced at was text old
+filled_part old mid text at was now room long =
+    filled old mid (put_mid at (at + now - at) mid text) text at was now room long (ap (λ (b : List ℕ). take at mid ++ (text ++ b)) (Post-is at (at + now) mid (omega arith)))
+
+-- what was written over all of a part
+pub wrote_over : (old text new : List ℕ) (end : ℕ) → length old ≡ length text → length new ≡ length old → Wrote old 0 text new end → new ≡ text
+wrote_over old text new end long same wrote =
+    let all : length new ≤ end = omega (arith, long, same, wrote.behind) in
+    sym (take_all end new all) ∙ wrote.front
 
 -- ---- zeros at the end
 
@@ -196,3 +211,37 @@ module _ (bytes p : List ℕ) (page : LivePage) (count_at count at was held : �
           sym (ap (λ (b : List ℕ). length b) e ∙ length-append spot.behind (replicate left 0) ∙ ap (λ (n : ℕ). length spot.behind + n) (length-replicate left 0))
           ∙ length-append (take m (drop (at + was) bytes)) (replicate (was - length text) 0)
           ∙ (λ i. (length-take m (drop (at + was) bytes) ∙ ap (λ (n : ℕ). min m n) (length-drop (at + was) bytes)) i + length-replicate (was - length text) 0 i)
+
+-- ---- as it is told of the bytes alone
+
+-- where the record and the count stand is inside of the bytes, and the count has its place
+pub record StandsInside (bytes text : List ℕ) (count_at count at was held one : ℕ) : Type 0 where
+  pub before : at + was ≤ length bytes
+  pub after : at + length text ≤ length bytes
+  pub counter : count_at + 2 ≤ length bytes
+  pub some : held ≤ count
+  pub place : count - held + one < 2 ^ 16
+
+pub stands_inside : (bytes p : List ℕ) (q : Page) (body : Option (List ℕ)) (count_at count at was held : ℕ) → length bytes ≡ PAGE → IsLiveAnd q (λ page. IsSpot bytes p page count_at count at was held) → IsLiveAnd q (λ page. HasSpelling (Live (spliced p body page)))
+    → StandsInside bytes (flat_map record_bytes (record_with p body)) count_at count at was held (length (record_with p body))
+stands_inside bytes p (Free next) body count_at count at was held page_long spot room = absurd spot
+stands_inside bytes p (Live page) body count_at count at was held page_long spot room =
+    let l = long bytes p page count_at count at was held spot body room in
+    let f = fits bytes p page count_at count at was held spot body room in
+    record {
+      before = omega (arith, l, spot.there, spot.wide);
+      after = omega (arith, f, spot.there, page_long);
+      counter = omega (arith, l, spot.count_there);
+      some = spot.some;
+      place = omega (arith, spot.few, one_at_most body);
+    }
+  where
+    one_at_most : (body : Option (List ℕ)) → length (record_with p body) ≤ 1
+    one_at_most (Some body) = omega arith
+    one_at_most None = omega arith
+
+pub splice_spells : (bytes p new : List ℕ) (q : Page) (body : Option (List ℕ)) (count_at count at was held : ℕ) → length bytes ≡ PAGE → IsLiveAnd q (λ page. IsSpot bytes p page count_at count at was held) → IsLiveAnd q (λ page. HasSpelling (Live (spliced p body page)))
+    → new ≡ take count_at (replaced at was (flat_map record_bytes (record_with p body)) bytes) ++ big_endian 2 (count - held + length (record_with p body)) ++ drop (count_at + 2) (replaced at was (flat_map record_bytes (record_with p body)) bytes)
+    → IsLiveAnd q (λ page. page_of_bytes new ≡ Some (Live (spliced p body page)))
+splice_spells bytes p new (Free next) body count_at count at was held page_long spot room is = absurd spot
+splice_spells bytes p new (Live page) body count_at count at was held page_long spot room is = spelled bytes p page count_at count at was held spot body room new page_long is

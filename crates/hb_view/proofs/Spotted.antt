@@ -32,6 +32,8 @@ use Rattle.hb_view.specs.Spelled.{page_spelled}
 use Rattle.hb_view.specs.Spots.{IsPlaceAmong, IsSpot, LeadsToList, record_with}
 use Rattle.hb_view.specs.Views.{HasInside, IsLive, IsLiveAnd, LeafWithin}
 use Rattle.hb_view.specs.declared.trees.Inside.{Inside}
+use Rattle.hb_view.specs.declared.trees.ListView.{ListView}
+use Rattle.hb_view.specs.Seen.{list_seen}
 use Rattle.hb_view.proofs.Headed.{live_spelled}
 use Rattle.hb_view.proofs.Led.{stands}
 use Rattle.hb_view.proofs.PlacedAmong.{with_body_there}
@@ -249,3 +251,30 @@ module _ (bytes p : List ℕ) (page : LivePage) (k : ℕ) (from : List ℕ) (at 
             few = omega (arith, all_long, list.counted, at.spells.long, long);
             made = made;
           }
+
+-- ---- as it is told of the bytes alone
+
+module _ (bytes p : List ℕ) (inside : Inside) (fits : AreBytes bytes) (ordered : IsLiveAnd (page_spelled bytes) (IsOrderedAt p)) (parts : IsLiveAnd (page_spelled bytes) (λ page. HasInside page inside))
+    (begins : inside.tree.bytes.now ≡ drop (4 + 16 * inside.tree.k.number) bytes) where
+  known : LiveOrdered bytes p inside.tree.k.number inside.tree.bytes.now
+  known = live_ordered bytes p inside fits (live_so (page_spelled bytes) (IsOrderedAt p) ordered) ordered parts begins
+
+  pub has_as_many : length p ≡ inside.tree.k.number
+  has_as_many = as_many bytes p known.page inside.tree.k.number inside.tree.bytes.now known.at
+
+  pub names_none : LeafWithin IsPointer (tree_there inside.tree.k.number inside.tree.bytes.now) p → ⊥
+  names_none within = no_pointer bytes p known.page inside.tree.k.number inside.tree.bytes.now known.at within
+
+  module _ (list : ListView) (same : list.k.number ≡ inside.tree.k.number) (leads : LeadsToList inside.tree.k.number inside.tree.bytes.now p list.count list.first.now) where
+    seen : list_seen list ≡ records_there inside.tree.k.number list.count list.first.now
+    seen = ap (λ n. records_there n list.count list.first.now) same
+
+    pub list_rises : AllPairs Precedes (list_seen list)
+    list_rises = subst (λ (rs : List Record). AllPairs Precedes rs) (sym seen) (rising bytes p known.page inside.tree.k.number inside.tree.bytes.now known.at list.count list.first.now leads)
+
+    pub is_spot : (there behind : List ℕ) (held count_at place_at was : ℕ) → IsPlaceAmong p (list_seen list) list.first.now there behind held → count_at ≡ length bytes - length list.first.now - 2 → place_at ≡ length bytes - length there → was ≡ length there - length behind
+        → IsLiveAnd (page_spelled bytes) (λ page. IsSpot bytes p page count_at list.count place_at was held)
+    is_spot there behind held count_at place_at was place ec ea ew =
+        let among = subst (λ (rs : List Record). IsPlaceAmong p rs list.first.now there behind held) seen place in
+        let spot = spotted bytes p known.page inside.tree.k.number inside.tree.bytes.now known.at list.count list.first.now leads there behind held among count_at place_at was ec ea ew in
+        subst (λ (q : Page). IsLiveAnd q (λ page. IsSpot bytes p page count_at list.count place_at was held)) (sym known.is) spot

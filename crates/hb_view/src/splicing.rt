@@ -2,7 +2,7 @@
 //!
 //! Of all the bytes two stretches change: the count of the leaf's records, and from the point's record on. The bytes behind that
 //! record move as one, by a rotation, and so far as they are zeros they come and go at the page's end.
-ghost use Rattle.std.specs.Prelude.{◌≡◌, ◌+◌, ◌≤◌, length, option_copied, flat_map, Some};
+ghost use Rattle.std.specs.Prelude.{◌≡◌, ◌+◌, ◌-◌, ◌≤◌, ◌++◌, length, take, drop, replicate, option_copied, flat_map, Some};
 ghost use Rattle.hb_frag.specs.Grammar.{HasSpelling, record_bytes};
 ghost use Rattle.hb_frag.specs.declared.pages.Page.TheVariants.{Live};
 ghost use Rattle.hb_page_codec.specs.ReadingPages.{page_of_bytes};
@@ -54,6 +54,24 @@ fn spot_of(bytes: &[u8], point: &Point) -> Spot
     }
 }
 
+/// The bytes from a place on move on by so many, and the last ones come to the place.
+fn open_gap(bytes: &mut [u8], at: usize, by: usize)
+    requires { at + by ≤ length bytes.old }
+    ensures { bytes.new ≡ take at bytes.old ++ (drop (length bytes.old - at - by) (drop at bytes.old) ++ take (length bytes.old - at - by) (drop at bytes.old)) }
+{
+    bytes[at..].rotate_right(by);
+}
+
+/// So many bytes go at a place, and zeros come at the end.
+fn close_gap(bytes: &mut [u8], at: usize, by: usize)
+    requires { at + by ≤ length bytes.old }
+    ensures { bytes.new ≡ take at bytes.old ++ (drop (at + by) bytes.old ++ replicate by 0) }
+{
+    bytes[at..].rotate_left(by);
+    let end = bytes.len() - by;
+    bytes[end..].fill(0);
+}
+
 /// Makes room for `now` bytes from a place on, where `was` stood.
 fn make_room(bytes: &mut [u8], at: usize, was: usize, now: usize)
     requires was { at + was ≤ length bytes.old }
@@ -61,16 +79,24 @@ fn make_room(bytes: &mut [u8], at: usize, was: usize, now: usize)
     ensures { MakesRoom bytes.old at was now bytes.new }
 {
     if was < now {
-        bytes[at..].rotate_right(now - was);
+        open_gap(bytes, at, now - was);
     } else {
-        bytes[at..].rotate_left(was - now);
-        let end = bytes.len() - (was - now);
-        bytes[end..].fill(0);
+        close_gap(bytes, at, was - now);
     }
 }
 
-/// How many bytes the record of the point has with this body; none where there is no body.
-fn width_of(point: &Point, body: Option<&Body>) -> usize
+/// How many records the point has with this body: one, or none where there is no body.
+fn count_with(point: &Point, body: Option<&Body>) -> u16
+    ensures { result ≡ length (record_with point.now (option_copied body.entry)) }
+{
+    match body {
+        Some(_) => 1,
+        None => 0,
+    }
+}
+
+/// How many bytes they have.
+fn width_with(point: &Point, body: Option<&Body>) -> usize
     ensures { result ≡ length (flat_map record_bytes (record_with point.now (option_copied body.entry))) }
 {
     match body {
@@ -79,16 +105,24 @@ fn width_of(point: &Point, body: Option<&Body>) -> usize
     }
 }
 
+/// Writes the record over all of these bytes.
+fn fill_record(part: &mut [u8], point: &Point, body: &Body)
+    requires { length part.old ≡ length (record_bytes (record { key = point.now; body = body.now })) }
+    ensures { part.new ≡ record_bytes (record { key = point.now; body = body.now }) }
+{
+    put_record(part, 0, point, body);
+}
+
 /// Puts the record of the point with this body, or no record, in the place of so many bytes.
 fn replace(bytes: &mut [u8], at: usize, was: usize, point: &Point, body: Option<&Body>)
     requires was { at + was ≤ length bytes.old }
     requires now { at + length (flat_map record_bytes (record_with point.now (option_copied body))) ≤ length bytes.old }
     ensures { bytes.new ≡ replaced at was (flat_map record_bytes (record_with point.now (option_copied body.entry))) bytes.old }
 {
-    let now = width_of(point, body);
+    let now = width_with(point, body);
     make_room(bytes, at, was, now);
     if let Some(body) = body {
-        put_record(&mut bytes[at..at + now], 0, point, body);
+        fill_record(&mut bytes[at..at + now], point, body);
     }
 }
 
@@ -102,7 +136,7 @@ pub fn splice(bytes: &mut [u8; PAGE], point: &Point, body: Option<&Body>)
     ensures { IsLiveAnd (page_spelled bytes.old) (λ page. page_of_bytes bytes.new ≡ Some (Live (spliced point.now (option_copied body.entry) page))) }
 {
     let spot = spot_of(bytes, point);
-    let count = spot.count - spot.held + u16::from(body.is_some());
+    let count = spot.count - spot.held + count_with(point, body);
     replace(bytes, spot.at, spot.was, point, body);
     give_u16(bytes, spot.count_at, count);
 }
