@@ -4,7 +4,7 @@ use Rattle.std.specs.List.{flat_map}
 use Rattle.std.proofs.Math.Seq.{take-append-add}
 use borrow.Rule.Slice.PartMut.{put_mid, Post-is}
 use Rattle.std.proofs.lemmas.Bool.{cases_lt}
-use Rattle.std.proofs.lemmas.List.{append-nil, drop-drop, drop_at, length-drop, length-replicate, length-take, length-take-le, replicate-append-replicate, take-append-drop, take-replicate, take_all, take_at}
+use Rattle.std.proofs.lemmas.List.{append-nil, drop-append-le, drop-drop, drop_at, length-drop, length-replicate, length-take, length-take-le, replicate-append-replicate, take-append-drop, take-replicate, take_all, take_at}
 use Rattle.hb_lemmas.specs.Numbers.{big_endian}
 use Rattle.hb_lemmas.proofs.Numbers.{length_big_endian}
 use Rattle.hb_space.specs.declared.form.TheConstants.{PAGE}
@@ -24,11 +24,6 @@ use Rattle.hb_view.specs.Views.{IsLiveAnd}
 -- drop past a front
 past : (a b : List ℕ) (n m : ℕ) → length a ≡ n → drop (n + m) (a ++ b) ≡ drop m b
 past a b n m long = sym (drop-drop m n (a ++ b)) ∙ ap (λ (xs : List ℕ). drop m xs) (drop_at a b n long)
-
--- what is dropped from the front of a longer list
-drop_front : (a b : List ℕ) (n : ℕ) → n ≤ length a → drop n (a ++ b) ≡ drop n a ++ b
-drop_front a b n le =
-    ap (λ (xs : List ℕ). drop n (xs ++ b)) (sym (take-append-drop n a)) ∙ ap (drop n) (append_assoc (take n a) (drop n a) b) ∙ drop_at (take n a) (drop n a ++ b) n (length-take-le n a le)
 
 -- dropped from what was taken
 drop_take : (n m : ℕ) (xs : List ℕ) → n + m ≤ length xs → drop n (take (n + m) xs) ≡ take m (drop n xs)
@@ -77,7 +72,7 @@ closed old new at was now by fits less is =
       front = ap (take at) is ∙ take_at (take at old) (drop (at + by) old ++ replicate by 0) at front;
       behind = ap (drop (at + now)) is
           ∙ past (take at old) (drop (at + by) old ++ replicate by 0) at now front
-          ∙ drop_front (drop (at + by) old) (replicate by 0) now (omega arith)
+          ∙ drop-append-le now (drop (at + by) old) (replicate by 0) (omega arith)
           ∙ ap (λ (b : List ℕ). b ++ replicate by 0) (drop-drop now (at + by) old ∙ ap (λ (k : ℕ). drop k old) there)
           ∙ ap (λ (b : List ℕ). b ++ replicate by 0) (sym (take_all (length old - (at + now)) (drop (at + was) old) behind_it))
           ∙ ap (λ (k : ℕ). take (length old - (at + now)) (drop (at + was) old) ++ replicate k 0) fewer;
