@@ -8,7 +8,7 @@ ghost use Rattle.hb_page_codec.specs.Writing.{Wrote, IsCountable, AreCountable};
 use hb_frag::{Frag, Leaf, Node, Page};
 use hb_outside::{give_u16, give_u32, give_u64};
 use hb_space::form::PAGE;
-use hb_space::{Point, Record};
+use hb_space::{Body, Point, Record};
 
 /// Writes a byte at a place, and gives the place behind it.
 fn put_u8(into: &mut [u8], at: usize, byte: u8) -> usize
@@ -70,12 +70,12 @@ fn put_point(into: &mut [u8], at: usize, point: &Point) -> usize
 
 /// Writes a record at a place, and gives the place behind it.
 #[tactic(auto, using(crate::proofs::Writes::length_big_endian))]
-fn put_record(into: &mut [u8], at: usize, entry: &Record) -> usize
-    requires { at + length (record_bytes entry.now) ≤ length into.old }
-    ensures { Wrote into.old at (record_bytes entry.now) into.new result }
+pub fn put_record(into: &mut [u8], at: usize, key: &Point, body: &Body) -> usize
+    requires { at + length (record_bytes (record { key = key.now; body = body.now })) ≤ length into.old }
+    ensures { Wrote into.old at (record_bytes (record { key = key.now; body = body.now })) into.new result }
 {
-    let body = entry.body.bytes();
-    let end = put_point(into, at, &entry.key);
+    let body = body.bytes();
+    let end = put_point(into, at, key);
     let end = put_u8(into, end, body.len() as u8);
     put_bytes(into, end, body)
 }
@@ -87,7 +87,7 @@ fn put_records(into: &mut [u8], at: usize, records: &[Record]) -> usize
 {
     let mut end = at;
     for entry in records {
-        end = put_record(into, end, entry);
+        end = put_record(into, end, &entry.key, &entry.body);
     }
     end
 }

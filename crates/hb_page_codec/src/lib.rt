@@ -27,7 +27,7 @@ mod records;
 mod threads;
 
 pub use decoding::{decode, head_of};
-pub use encoding::encode;
+pub use encoding::{encode, put_record};
 pub use errors::PageError;
 pub use fragments::{axis_of, count_of};
 pub use numbers::{u16_of, u32_of, u64_of};

@@ -1,10 +1,15 @@
 -- Where the values of a point stand in its bytes.
 use Rattle.std.proofs.Common.{◌≡◌, ℕ, zero, suc, ◌+◌, ◌*◌, ◌<◌, ◌≤◌, Bool, true, false, List, [], ◌∷◌, ◌++◌, length, get_or, take, drop, Option, Some, None, inl, inr, refl, sym, ap, subst, ◌∙◌, arith}
 use Rattle.std.proofs.Math.Seq.{take-suc}
-use Rattle.std.proofs.lemmas.Bool.{cases_lt, cases_Bool, le-ltb}
+use Rattle.std.specs.Ordering.{is_ne, nat_cmp, ordering_then}
+use Rattle.std.specs.declared.cmp.Ordering.{Ordering}
+use Rattle.std.specs.declared.cmp.Ordering.TheVariants.{Less, Equal, Greater}
+use Rattle.std.proofs.lemmas.Bool.{cases_lt, cases_Bool, false≢true, le-ltb}
+use Rattle.std.proofs.lemmas.Cmp.{nat_cmp_total, nat_list_cmp_total, tied_itself}
 use Rattle.std.proofs.lemmas.List.{drop-drop, length-drop, take_all, ext_get_or}
 use Rattle.std.proofs.lemmas.Option.{same_Some}
 use Rattle.byteorder.specs.Endian.{big_number}
+use Rattle.hb_space.specs.Points.{point_cmp}
 use Rattle.hb_space.specs.Boxes.{Area}
 use Rattle.hb_page_codec.specs.Reading.{number_at, many_at}
 use Rattle.hb_page_codec.specs.ReadingFields.{point_at, area_at, area_between, are_ordered}
@@ -67,6 +72,24 @@ all_taken k i bytes le room = take_all i (point_there k bytes) (omega (arith, po
 
 pub same_values : (k i : ℕ) (bytes p : List ℕ) → length p ≡ k → 8 * k ≤ length bytes → length p ≤ i → ((j : ℕ) → j < i → get_or (point_there k bytes) j 0 ≡ get_or p j 0) → point_there k bytes ≡ p
 same_values k i bytes p long room le same = ext_get_or 0 (point_there k bytes) p (point_count k bytes room ∙ sym long) (λ j lt. same j (omega (arith, lt, point_count k bytes room)))
+
+-- the first value that differs decides how two points compare
+pub differs_first : (x p : List ℕ) (i : ℕ) (o : Ordering) → i < length x → i < length p → ((j : ℕ) → j < i → get_or x j 0 ≡ get_or p j 0) → o ≡ nat_cmp (get_or x i 0) (get_or p i 0) → is_ne o ≡ true → o ≡ point_cmp x p
+differs_first [] p i o inside within same e ne = absurd (omega arith)
+differs_first (a ∷ xs) [] i o inside within same e ne = absurd (omega arith)
+differs_first (a ∷ xs) (b ∷ ps) zero o inside within same e ne = decides o ne ∙ ap (λ (q : Ordering). ordering_then q (point_cmp xs ps)) e
+  where
+    decides : (o : Ordering) → is_ne o ≡ true → o ≡ ordering_then o (point_cmp xs ps)
+    decides Less h = refl
+    decides Equal h = absurd (false≢true h)
+    decides Greater h = refl
+differs_first (a ∷ xs) (b ∷ ps) (suc i) o inside within same e ne =
+    let first : nat_cmp a b ≡ Equal = ap (λ (n : ℕ). nat_cmp n b) (same 0 (omega arith)) ∙ tied_itself nat_cmp_total b in
+    differs_first xs ps i o (omega arith) (omega arith) (λ j less. same (suc j) (omega arith)) e ne ∙ sym (ap (λ (q : Ordering). ordering_then q (point_cmp xs ps)) first)
+
+-- and where none does, they are one
+pub same_compare : (x p : List ℕ) → x ≡ p → Equal ≡ point_cmp x p
+same_compare x p e = sym (ap (λ (y : List ℕ). point_cmp y p) e ∙ tied_itself nat_list_cmp_total p)
 
 -- ---- two points in order
 

@@ -12,7 +12,7 @@ use Rattle.hb_space.specs.declared.form.TheConstants.{PAGE, KMAX}
 use Rattle.hb_frag.specs.declared.pages.LivePage.{LivePage}
 use Rattle.hb_frag.specs.declared.pages.Page.{Page}
 use Rattle.hb_frag.specs.declared.pages.Page.TheVariants.{Live, Free}
-use Rattle.hb_frag.specs.Grammar.{point_bytes}
+use Rattle.hb_frag.specs.Grammar.{SpellsPage, point_bytes}
 use Rattle.hb_frag.specs.Trees.{Tree}
 use Rattle.hb_frag.specs.Leaves.{weight_of}
 use Rattle.hb_frag.proofs.Facts.Kinds.{same_free, same_live}
@@ -153,18 +153,21 @@ pub record LiveSpelled (bytes : List ℕ) : Type 0 where
   pub is : page_spelled bytes ≡ Live page
   pub long : length bytes ≡ PAGE
   pub fields : LiveBytes bytes page
+  pub spells : SpellsPage bytes (Live page)
   pub light : weight_of page.frag ≤ PAGE
 
 pub live_spelled : (bytes : List ℕ) → AreBytes bytes → IsLive (page_spelled bytes) → LiveSpelled bytes
 live_spelled bytes fits live =
     let w = spelled_live (page_of_bytes bytes) live in
     let f = fields_of bytes (Live w.0) w.1 in
+    let spells = page_takes bytes (Live w.0) fits w.1 in
     record {
       page = w.0;
       is = ap page_or w.1;
       long = spelled_long bytes (Live w.0) w.1;
       fields = fields_tell bytes w.0 f.0 fits f.1;
-      light = is_light bytes (Live w.0) (page_takes bytes (Live w.0) fits w.1);
+      spells = spells;
+      light = is_light bytes (Live w.0) spells;
     }
 
 pub live_tells : (bytes : List ℕ) (P : LivePage → Type 0) (s : LiveSpelled bytes) → P s.page → IsLiveAnd (page_spelled bytes) P

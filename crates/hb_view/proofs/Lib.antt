@@ -11,3 +11,7 @@ pub mod Limited
 pub mod Cornered
 pub mod LookedFor
 pub mod ReadOver
+pub mod Led
+pub mod PlacedAmong
+pub mod Spotted
+pub mod Replaced

@@ -14,8 +14,8 @@ use Rattle.hb_view.specs.declared.leaves.LeafView.{LeafView}
 use Rattle.hb_view.specs.declared.leaves.LeafView.TheVariants as views
 use Rattle.hb_view.specs.Naming.{CountsLeaf, StopsAtLeaf, named_box}
 use Rattle.hb_view.specs.Roots.{tree_there, rest_there, IsCutAt, IsListAt}
-use Rattle.hb_view.specs.Views.{ShowsLeaf}
-use Rattle.hb_view.proofs.Walked.{many_counted, LeafWithin, leaf_tip, leaf_left, leaf_right}
+use Rattle.hb_view.specs.Views.{LeafWithin, ShowsLeaf}
+use Rattle.hb_view.proofs.Walked.{many_counted, leaf_tip, leaf_left, leaf_right}
 
 -- ---- the leaves of both sides
 
@@ -92,27 +92,18 @@ place_past k bytes left right axis value area below above place behind last cut 
 abbrev pub CountsWithin : Tree → List ℕ → ℕ → Type 0
 CountsWithin t p count = (area : Area) → IsArea area → IsWellCut t area → Holds area p → CountsLeaf (first_at p (leaves_of t area)) count
 
-abbrev CountsIn : ℕ → Leaf → Type 0
-CountsIn count leaf = count ≡ length (records_of leaf)
+pub counts : (t : Tree) (p : List ℕ) (records : List Record) (count : ℕ) → LeafWithin (λ leaf. leaf ≡ Records records) t p → length records ≡ count → CountsWithin t p count
+counts t p records count within counted area h cut held =
+    let there = within area h cut held in
+    record { placed = there.0; found = there.1; counted = sym (ap (λ (leaf : Leaf). length (records_of leaf)) there.2 ∙ counted) }
 
-counts : (t : Tree) (p : List ℕ) (count : ℕ) → LeafWithin (CountsIn count) t p → CountsWithin t p count
-counts t p count within area h cut held = let there = within area h cut held in record { placed = there.0; found = there.1; counted = there.2 }
-
-counts_so : (t : Tree) (p : List ℕ) (count : ℕ) → CountsWithin t p count → LeafWithin (CountsIn count) t p
-counts_so t p count tells area h cut held = let there = tells area h cut held in (there.placed, there.found, there.counted)
-
-pub counts_tip : (t : Tree) (leaf : Leaf) (p : List ℕ) (count : ℕ) → t ≡ Tip leaf → count ≡ length (records_of leaf) → CountsWithin t p count
-counts_tip t leaf p count e counted = counts t p count (leaf_tip (CountsIn count) t leaf p e counted)
-
-pub counts_list : (k : ℕ) (bytes first : List ℕ) (count : ℕ) (p : List ℕ) → IsListAt k bytes count first → CountsWithin (tree_there k bytes) p count
-counts_list k bytes first count p list = counts_tip (tree_there k bytes) (Records list.records) p count list.tree (sym (many_counted (record_at k) count first (list.records, rest_there k bytes) list.read))
-
-pub counts_left : (k : ℕ) (bytes left : List ℕ) (axis value at : ℕ) (p : List ℕ) (count : ℕ) → IsCutAt k bytes axis value left → at ≡ axis → get_or p at 0 < value → CountsWithin (tree_there k left) p count → CountsWithin (tree_there k bytes) p count
-counts_left k bytes left axis value at p count cut e lt tells = counts (tree_there k bytes) p count (leaf_left (CountsIn count) k bytes left axis value at p cut e lt (counts_so (tree_there k left) p count tells))
-
-pub counts_right : (k : ℕ) (bytes left rest : List ℕ) (axis value at : ℕ) (p : List ℕ) (count : ℕ) → IsCutAt k bytes axis value left → rest ≡ rest_there k left → at ≡ axis → value ≤ get_or p at 0
-    → CountsWithin (tree_there k rest) p count → CountsWithin (tree_there k bytes) p count
-counts_right k bytes left rest axis value at p count cut r e le tells = counts (tree_there k bytes) p count (leaf_right (CountsIn count) k bytes left rest axis value at p cut r e le (counts_so (tree_there k rest) p count tells))
+pub counts_none : (t : Tree) (p : List ℕ) → LeafWithin IsPointer t p → CountsWithin t p 0
+counts_none t p within area h cut held = let there = within area h cut held in record { placed = there.0; found = there.1; counted = nothing there.0.leaf there.2 }
+  where
+    nothing : (leaf : Leaf) → IsPointer leaf → 0 ≡ length (records_of leaf)
+    nothing (Records records) h = absurd h
+    nothing (Child page) h = refl
+    nothing (Sibling page) h = refl
 
 -- ---- the right side of a tree that is well cut
 

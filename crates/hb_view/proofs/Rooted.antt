@@ -1,8 +1,10 @@
 -- A tree that stands somewhere has the root that is seen there.
-use Rattle.std.proofs.Common.{◌≡◌, ℕ, zero, suc, ◌<◌, cond, ltb, List, [], ◌∷◌, length, Option, Some, None, IsSome, refl, sym, ap, subst, ◌∙◌, arith}
+use Rattle.std.proofs.Common.{◌≡◌, ℕ, zero, suc, ◌+◌, ◌*◌, ◌<◌, cond, ltb, List, [], ◌∷◌, length, drop, Option, Some, None, IsSome, refl, sym, ap, subst, ◌∙◌, arith}
 use Rattle.std.proofs.lemmas.Bool.{ltb-true}
 use Rattle.std.proofs.lemmas.Option.{same_Some}
-use Rattle.hb_lemmas.proofs.Booleans.{when_some}
+use Rattle.std.proofs.lemmas.List.{drop-drop}
+use Rattle.byteorder.specs.Endian.{big_number}
+use Rattle.hb_lemmas.proofs.Booleans.{unless_some, when_some}
 use Rattle.hb_lemmas.proofs.Options.{some_value, has_value, bind_some}
 use Rattle.hb_space.specs.declared.records.Record.{Record}
 use Rattle.hb_frag.specs.declared.leaves.Leaf.TheVariants as leaves
@@ -26,6 +28,30 @@ axis_below k bytes x e =
     let g = when_some (ltb a.0.0 k) (Some a.0) x a.2 in
     subst (λ (y : ℕ × List ℕ). y.0 < k) (same_Some a.0 x g.1) (ltb-true _ _ g.0)
 
+-- the bytes behind a number, behind an attribute, and behind a count
+number_behind : (width : ℕ) (bytes : List ℕ) (x : ℕ × List ℕ) → number_at width bytes ≡ Some x → x.1 ≡ drop width bytes
+number_behind width bytes x e =
+    let g = unless_some (ltb (length bytes) width) (Some (big_number width bytes, drop width bytes)) x e in
+    sym (ap (λ (y : ℕ × List ℕ). y.1) (same_Some (big_number width bytes, drop width bytes) x g.1))
+
+byte_behind : (bytes : List ℕ) (x : ℕ × List ℕ) → byte_at bytes ≡ Some x → x.1 ≡ drop 1 bytes
+byte_behind [] x e = absurd cc
+byte_behind (b ∷ rest) x e = sym (ap (λ (y : ℕ × List ℕ). y.1) (same_Some (b, rest) x e))
+
+axis_behind : (k : ℕ) (bytes : List ℕ) (x : ℕ × List ℕ) → axis_at k bytes ≡ Some x → x.1 ≡ drop 1 bytes
+unfolding axis_at
+axis_behind k bytes x e =
+    let a = bind_some (byte_at bytes) (λ axis. cond (ltb axis.0 k) (Some axis) None) x e in
+    let g = when_some (ltb a.0.0 k) (Some a.0) x a.2 in
+    sym (ap (λ (y : ℕ × List ℕ). y.1) (same_Some a.0 x g.1)) ∙ byte_behind bytes a.0 a.1
+
+count_behind : (k : ℕ) (bytes : List ℕ) (x : ℕ × List ℕ) → count_at k bytes ≡ Some x → x.1 ≡ drop 2 bytes
+unfolding count_at
+count_behind k bytes x e =
+    let a = bind_some (number_at 2 bytes) (λ count. cond (ltb (length count.1) (count.0 * (8 * k + 1))) None (Some count)) x e in
+    let g = unless_some (ltb (length a.0.1) (a.0.0 * (8 * k + 1))) (Some a.0) x a.2 in
+    sym (ap (λ (y : ℕ × List ℕ). y.1) (same_Some a.0 x g.1)) ∙ number_behind 2 bytes a.0 a.1
+
 -- what is there is what was made
 is_made : {A : Type 0} {o made : Option A} {x : A} → o ≡ Some x → made ≡ Some x → o ≡ made
 is_made {o = o} {made = made} p q = p ∙ sym q
@@ -46,6 +72,7 @@ cut_root k rest a v l r ea ev el er all =
         tree = rw (all, el, er) refl;
         rest = rw (all, el, er) refl;
         attribute = axis_below k rest a ea;
+        begins = number_behind 8 a.1 v ev ∙ ap (drop 8) (axis_behind k rest a ea) ∙ drop-drop 8 1 rest;
         left_shorter = omega (arith, la, lv);
         right_shorter = omega (arith, la, lv, ll, ap (λ (b : List ℕ). length b) behind);
       },
@@ -68,6 +95,7 @@ records_root k rest a b ea eb all = (
   record {
     records = b.0;
     read = rw all eb;
+    begins = count_behind k rest a ea;
     tree = ap tree_or all;
   },
 )

@@ -7,7 +7,7 @@ use Rattle.hb_space.proofs.Facts.Boxes.{Holds-side_below, Holds-side_from}
 use Rattle.hb_frag.specs.declared.leaves.Leaf.{Leaf}
 use Rattle.hb_frag.specs.declared.leaves.Leaf.TheVariants as leaves
 use Rattle.hb_frag.specs.Trees.{Tree, Tip, Cut}
-use Rattle.hb_frag.specs.Leaves.{IsWellCut, first_at, leaves_of, records_of, weight_of, Placed}
+use Rattle.hb_frag.specs.Leaves.{IsPointer, IsWellCut, first_at, leaves_of, records_of, weight_of, Placed}
 use Rattle.hb_frag.proofs.Facts.Ways.{found_here, found_left, found_right}
 use Rattle.hb_frag.proofs.Facts.Sides.{IsArea-side_below, IsArea-side_from}
 use Rattle.hb_page_codec.specs.Reading.{many_at}
@@ -15,7 +15,7 @@ use Rattle.hb_page_codec.specs.ReadingFields.{record_at}
 use Rattle.hb_view.specs.declared.leaves.LeafView.{LeafView}
 use Rattle.hb_view.specs.Lists.{records_there}
 use Rattle.hb_view.specs.Roots.{tree_there, rest_there, IsCutAt, IsListAt}
-use Rattle.hb_view.specs.Views.{leaf_view, ShowsLeaf, TellsBody, FindsAmong}
+use Rattle.hb_view.specs.Views.{LeafWithin, leaf_view, ShowsLeaf, TellsBody, FindsAmong}
 use Rattle.hb_lemmas.proofs.Options.{bind_some}
 use Rattle.hb_lemmas.specs.Options.{◌>>=◌}
 use Rattle.hb_view.specs.Behind.{list_or}
@@ -48,10 +48,6 @@ shows_right k bytes left rest axis value at p area above view box cut r e is_are
 
 -- ---- what is so of the leaf at a point
 
--- it is so of the leaf at the point in a tree, whatever the tree's box
-abbrev pub LeafWithin : (Leaf → Type 0) → Tree → List ℕ → Type 0
-LeafWithin P t p = (area : Area) → IsArea area → IsWellCut t area → Holds area p → (l : Placed) × (first_at p (leaves_of t area) ≡ Some l) × P l.leaf
-
 module _ (P : Leaf → Type 0) where
   pub leaf_tip : (t : Tree) (leaf : Leaf) (p : List ℕ) → t ≡ Tip leaf → P leaf → LeafWithin P t p
   leaf_tip t leaf p e so area h cut held = (record { leaf = leaf; area = area }, found_here t leaf area p e h held, so)
@@ -80,27 +76,18 @@ FindsIn p body leaf = FindsAmong p (records_of leaf) body
 abbrev pub FindsWithin : Tree → List ℕ → Option (List ℕ) → Type 0
 FindsWithin t p body = (area : Area) → IsArea area → IsWellCut t area → Holds area p → TellsBody p (first_at p (leaves_of t area)) body
 
-finds : (t : Tree) (p : List ℕ) (body : Option (List ℕ)) → LeafWithin (FindsIn p body) t p → FindsWithin t p body
-finds t p body within area h cut held = let there = within area h cut held in record { placed = there.0; found = there.1; among = there.2 }
+pub finds : (t : Tree) (p : List ℕ) (records : List Record) (body : Option (List ℕ)) → LeafWithin (λ leaf. leaf ≡ leaves.Records records) t p → FindsAmong p records body → FindsWithin t p body
+finds t p records body within among area h cut held =
+    let there = within area h cut held in
+    record { placed = there.0; found = there.1; among = subst (FindsIn p body) (sym there.2) among }
 
-finds_so : (t : Tree) (p : List ℕ) (body : Option (List ℕ)) → FindsWithin t p body → LeafWithin (FindsIn p body) t p
-finds_so t p body tells area h cut held = let there = tells area h cut held in (there.placed, there.found, there.among)
-
-pub finds_tip : (t : Tree) (leaf : Leaf) (p : List ℕ) (body : Option (List ℕ)) → t ≡ Tip leaf → FindsAmong p (records_of leaf) body → FindsWithin t p body
-finds_tip t leaf p body e among = finds t p body (leaf_tip (FindsIn p body) t leaf p e among)
-
-pub finds_left : (k : ℕ) (bytes left : List ℕ) (axis value at : ℕ) (p : List ℕ) (body : Option (List ℕ)) → IsCutAt k bytes axis value left → at ≡ axis → get_or p at 0 < value
-    → FindsWithin (tree_there k left) p body → FindsWithin (tree_there k bytes) p body
-finds_left k bytes left axis value at p body cut e lt tells = finds (tree_there k bytes) p body (leaf_left (FindsIn p body) k bytes left axis value at p cut e lt (finds_so (tree_there k left) p body tells))
-
-pub finds_right : (k : ℕ) (bytes left rest : List ℕ) (axis value at : ℕ) (p : List ℕ) (body : Option (List ℕ)) → IsCutAt k bytes axis value left → rest ≡ rest_there k left → at ≡ axis → value ≤ get_or p at 0
-    → FindsWithin (tree_there k rest) p body → FindsWithin (tree_there k bytes) p body
-finds_right k bytes left rest axis value at p body cut r e le tells = finds (tree_there k bytes) p body (leaf_right (FindsIn p body) k bytes left rest axis value at p cut r e le (finds_so (tree_there k rest) p body tells))
-
--- a leaf of records finds what is found among them
-pub finds_list : (k : ℕ) (bytes first : List ℕ) (count : ℕ) (p : List ℕ) (body : Option (List ℕ)) → IsListAt k bytes count first → FindsAmong p (records_there k count first) body → FindsWithin (tree_there k bytes) p body
-finds_list k bytes first count p body list among =
-    finds_tip (tree_there k bytes) (leaves.Records list.records) p body list.tree (subst (λ (rs : List Record). FindsAmong p rs body) (ap list_or list.read) among)
+pub finds_none : (t : Tree) (p : List ℕ) → LeafWithin IsPointer t p → FindsWithin t p None
+finds_none t p within area h cut held = let there = within area h cut held in record { placed = there.0; found = there.1; among = nothing there.0.leaf there.2 }
+  where
+    nothing : (leaf : Leaf) → IsPointer leaf → FindsIn p None leaf
+    nothing (leaves.Records records) h = absurd h
+    nothing (leaves.Child page) h = refl
+    nothing (leaves.Sibling page) h = refl
 
 -- ---- the weight of a list
 

@@ -8,3 +8,5 @@ pub mod Limits
 pub mod Corners
 pub mod Naming
 pub mod Seen
+pub mod Splicing
+pub mod Spots

@@ -1,5 +1,5 @@
 -- The tree at the front of bytes, seen by its root.
-use Rattle.std.specs.Prelude.{◌≡◌, ℕ, zero, suc, ◌<◌, List, [], ◌∷◌, length, Option, Some, None, IsSome}
+use Rattle.std.specs.Prelude.{◌≡◌, ℕ, zero, suc, ◌<◌, List, [], ◌∷◌, length, drop, Option, Some, None, IsSome}
 use Rattle.hb_space.specs.declared.records.Record.{Record}
 use Rattle.hb_frag.specs.declared.leaves.Leaf.{Leaf}
 use Rattle.hb_frag.specs.declared.leaves.Leaf.TheVariants as leaves
@@ -62,6 +62,7 @@ pub record IsCutAt (k : ℕ) (bytes : List ℕ) (axis value : ℕ) (left : List 
   pub tree : tree_there k bytes ≡ Cut axis value (tree_there k left) (tree_there k (rest_there k left))
   pub rest : rest_there k bytes ≡ rest_there k (rest_there k left)
   pub attribute : axis < k
+  pub begins : left ≡ drop 10 bytes
   pub left_shorter : length left < length bytes
   pub right_shorter : length (rest_there k left) < length bytes
 
@@ -69,6 +70,7 @@ pub record IsCutAt (k : ℕ) (bytes : List ℕ) (axis value : ℕ) (left : List 
 pub record IsListAt (k : ℕ) (bytes : List ℕ) (count : ℕ) (first : List ℕ) : Type 0 where
   pub records : List Record
   pub read : records_at k count first ≡ Some (records, rest_there k bytes)
+  pub begins : first ≡ drop 3 bytes
   pub tree : tree_there k bytes ≡ Tip (leaves.Records records)
 
 -- It is this leaf, which names a page, and these bytes are behind it.

@@ -1,6 +1,6 @@
 -- What a view is seen as, and what it tells of a leaf.
 use Rattle.std.specs.Prelude.{◌≡◌, ℕ, ◌≤◌, ◌⊎◌, List, [], ◌∷◌, length, Option, Some, None}
-use Rattle.hb_space.specs.Boxes.{Area, IsArea}
+use Rattle.hb_space.specs.Boxes.{Area, IsArea, Holds}
 use Rattle.hb_space.specs.declared.form.TheConstants.{PAGE}
 use Rattle.hb_space.specs.declared.records.Record.{Record}
 use Rattle.hb_frag.specs.declared.leaves.Leaf.{Leaf}
@@ -8,7 +8,8 @@ use Rattle.hb_frag.specs.declared.leaves.Leaf.TheVariants as leaves
 use Rattle.hb_frag.specs.declared.pages.LivePage.{LivePage}
 use Rattle.hb_frag.specs.declared.pages.Page.{Page}
 use Rattle.hb_frag.specs.declared.pages.Page.TheVariants.{Live, Free}
-use Rattle.hb_frag.specs.Leaves.{Placed, records_of, weight_of}
+use Rattle.hb_frag.specs.Trees.{Tree}
+use Rattle.hb_frag.specs.Leaves.{Placed, IsWellCut, first_at, leaves_of, records_of, weight_of}
 use Rattle.hb_view.specs.Seen.{tree_seen, area_seen}
 use Rattle.hb_view.specs.declared.leaves.LeafView.{LeafView}
 use Rattle.hb_view.specs.declared.leaves.LeafView.TheVariants as views
@@ -37,6 +38,10 @@ abbrev pub leaf_view : Leaf → LeafView
 leaf_view (leaves.Records records) = views.Records
 leaf_view (leaves.Child page) = views.Child page
 leaf_view (leaves.Sibling page) = views.Sibling page
+
+-- it is so of the leaf at the point in a tree, whatever the tree's box
+abbrev pub LeafWithin : (Leaf → Type 0) → Tree → List ℕ → Type 0
+LeafWithin P t p = (area : Area) → IsArea area → IsWellCut t area → Holds area p → (l : Placed) × (first_at p (leaves_of t area) ≡ Some l) × P l.leaf
 
 -- A leaf was found, and this is what it is and its box.
 pub record ShowsLeaf (at : Option Placed) (view : LeafView) (box : Area) : Type 0 where

@@ -1,5 +1,6 @@
 //! Points and boxes at the front of bytes, of which values are read where they stand.
 ghost use Rattle.std.specs.Prelude.{◌≡◌, ◌<◌, ◌≤◌, ◌*◌, ◌↔◌, drop, length, slice_index, IfSome, IsTrue};
+ghost use Rattle.hb_space.specs.Points.{point_cmp};
 ghost use Rattle.hb_page_codec.specs.Reading.{ReadsAs};
 ghost use Rattle.hb_page_codec.specs.ReadingFields.{point_at, area_at, are_ordered};
 ghost use Rattle.hb_view.specs.Behind.{behind};
@@ -9,6 +10,7 @@ use arrayvec::ArrayVec;
 use hb_page_codec::u64_of;
 use hb_space::Attributes;
 use hb_space::form::KMAX;
+use std::cmp::Ordering;
 
 /// A corner of a box, of which each value may be changed.
 pub(crate) type Corner = ArrayVec<u64, KMAX>;
@@ -57,6 +59,21 @@ pub(crate) fn is_point(k: Attributes, bytes: &[u8], p: &[u64]) -> bool
         }
     }
     true
+}
+
+/// How the point of `k` values that stands there compares with the one of these.
+pub(crate) fn compare(k: Attributes, bytes: &[u8], p: &[u64]) -> Ordering
+    requires room { 8 * k.number ≤ length bytes.now }
+    requires attributes { length p.now ≡ k.number }
+    ensures { result ≡ point_cmp (point_there k.number bytes.now) p.now }
+{
+    for axis in 0..p.len() {
+        let order = value_at(k, bytes, axis).cmp(&p[axis]);
+        if order.is_ne() {
+            return order;
+        }
+    }
+    Ordering::Equal
 }
 
 /// Whether no value of the first of two points exceeds the second one's in the same attribute.

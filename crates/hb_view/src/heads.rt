@@ -1,5 +1,5 @@
 //! The fields of a page in front of its tree.
-ghost use Rattle.std.specs.Prelude.{◌≡◌, ◌↔◌, slice_index, IfOk, IsSome, IsTrue};
+ghost use Rattle.std.specs.Prelude.{◌≡◌, ◌+◌, ◌*◌, ◌↔◌, drop, slice_index, IfOk, IsSome, IsTrue};
 ghost use Rattle.hb_frag.specs.Grammar.{HasSpelling};
 ghost use Rattle.hb_frag.specs.declared.pages.Page.TheVariants.{Free};
 ghost use Rattle.hb_page_codec.specs.ReadingPages.{page_of_bytes};
@@ -51,7 +51,8 @@ pub(crate) fn box_of(bytes: &[u8]) -> Area
 /// Where the box and the tree of the page in use stand that the bytes spell.
 pub(crate) fn inside_of(bytes: &[u8]) -> Inside<'_>
     requires { IsLive (page_spelled bytes.now) }
-    ensures { IsLiveAnd (page_spelled bytes.now) (λ page. HasInside page result) }
+    ensures parts { IsLiveAnd (page_spelled bytes.now) (λ page. HasInside page result) }
+    ensures begins { result.tree.bytes.now ≡ drop (4 + 16 * result.tree.k.number) bytes.now }
 {
     let k = attributes_of(bytes);
     let corners = from_place(bytes, 4);

@@ -17,6 +17,9 @@
 //! than its bytes allow. A cut takes ten of them, so a page has fewer than 410 cuts one below the other, which is what
 //! bounds the recursions.
 //!
+//! `splice` changes a page where it stands: a body is put at a point, or taken from it. Contracts see it as the page that the
+//! bytes spell then.
+//!
 //! `checked` trusts no byte: it tests what `decode` tests, in one pass. The other calls know that the bytes spell a page,
 //! and read again only what they need.
 #![tactic(auto)]
@@ -28,17 +31,21 @@ mod checking;
 mod corners;
 mod fields;
 mod heads;
+pub mod laws;
 mod leaves;
 mod lists;
 mod naming;
 mod order;
+mod places;
 mod roots;
 mod rules;
 mod skipping;
+mod splicing;
 mod threads;
 mod trees;
 mod views;
 mod walking;
 
 pub use leaves::LeafView;
+pub use splicing::splice;
 pub use views::PageView;

@@ -26,7 +26,7 @@ pub(crate) fn entry_of(k: Attributes, bytes: &[u8]) -> Option<(Point, &[u8], &[u
 
 /// A record as the bytes of its point and those of its body, and the bytes behind it.
 #[tactic(auto, unfolding(hb_page_codec::specs::ReadingFields::record_at))]
-fn parts_of(k: Attributes, bytes: &[u8]) -> Option<(&[u8], &[u8], &[u8])>
+pub(crate) fn parts_of(k: Attributes, bytes: &[u8]) -> Option<(&[u8], &[u8], &[u8])>
     ensures reads { ReadsAs (λ x. (record { key = point_there k.number x.0.now; body = x.1.now }, x.2.now)) result (record_at k.number bytes.now) }
     ensures room { IfSome result (λ x. 8 * k.number ≤ length x.0.now) }
     ensures short { IfSome result (λ x. length x.1.now ≤ BMAX) }

@@ -1,10 +1,11 @@
 //! Going down a tree.
-ghost use Rattle.std.specs.Prelude.{◌≡◌, ◌≤◌, length, IfSome, option_map};
+ghost use Rattle.std.specs.Prelude.{◌≡◌, ◌≤◌, length, IfSome, MatchOption, option_map};
 ghost use Rattle.hb_space.specs.Boxes.{Area as Extent, IsArea, Holds};
-ghost use Rattle.hb_frag.specs.Leaves.{IsWellCut, first_at, leaves_of, weight_of};
+ghost use Rattle.hb_frag.specs.Leaves.{IsPointer, IsWellCut, first_at, leaves_of, weight_of};
 ghost use Rattle.hb_view.specs.Naming.{CountsLeaf};
 ghost use Rattle.hb_view.specs.Seen.{tree_seen, rest_seen};
-ghost use Rattle.hb_view.specs.Views.{ShowsLeaf, TellsBody};
+ghost use Rattle.hb_view.specs.Spots.{LeadsToList};
+ghost use Rattle.hb_view.specs.Views.{LeafWithin, ShowsLeaf, TellsBody};
 
 use crate::LeafView;
 use crate::bounds::Bounds;
@@ -41,6 +42,30 @@ pub(crate) fn descend(tree: &TreeView<'_>, bounds: &mut Bounds, p: &[u64]) -> Le
     }
 }
 
+/// The records of the leaf to which the point leads. None where that leaf names a page.
+pub(crate) fn list_in<'a>(tree: &TreeView<'a>, p: &[u64]) -> Option<ListView<'a>>
+    requires { length p.now ≡ tree.now.k.number }
+    ensures same { IfSome result (λ list. list.k.number ≡ tree.now.k.number) }
+    ensures leads { MatchOption result (LeafWithin IsPointer (tree_seen tree.now) p.now)
+        (λ list. LeadsToList tree.now.k.number tree.now.bytes.now p.now list.count list.first.now) }
+{
+    let k = tree.k;
+    match root_of(tree) {
+        Root::Cut { axis, value, left } => {
+            let left = TreeView { k, bytes: left };
+            if p[usize::from(axis)] < value {
+                list_in(&left, p)
+            } else {
+                let right = rest_of(&left);
+                list_in(&TreeView { k, bytes: right }, p)
+            }
+        }
+        Root::Records { count, first } => Some(ListView { k, count, first }),
+        Root::Child { .. } => None,
+        Root::Sibling { .. } => None,
+    }
+}
+
 /// The body of the point's record in the leaf whose box holds the point. None where that leaf names a page, or lacks
 /// the point.
 pub(crate) fn find_in<'a>(tree: &TreeView<'a>, p: &[u64]) -> Option<&'a [u8]>
@@ -49,20 +74,9 @@ pub(crate) fn find_in<'a>(tree: &TreeView<'a>, p: &[u64]) -> Option<&'a [u8]>
         TellsBody p.now (first_at p.now (leaves_of (tree_seen tree.now) area)) (option_map (λ b. b.now) result) }
     ensures short { IfSome result (λ b. length b.now ≤ BMAX) }
 {
-    let k = tree.k;
-    match root_of(tree) {
-        Root::Cut { axis, value, left } => {
-            let left = TreeView { k, bytes: left };
-            if p[usize::from(axis)] < value {
-                find_in(&left, p)
-            } else {
-                let right = rest_of(&left);
-                find_in(&TreeView { k, bytes: right }, p)
-            }
-        }
-        Root::Records { count, first } => body_among(&ListView { k, count, first }, p),
-        Root::Child { .. } => None,
-        Root::Sibling { .. } => None,
+    match list_in(tree, p) {
+        Some(list) => body_among(&list, p),
+        None => None,
     }
 }
 
@@ -72,20 +86,9 @@ pub(crate) fn count_in(tree: &TreeView<'_>, p: &[u64]) -> u16
     ensures { (area : Extent) → IsArea area → IsWellCut (tree_seen tree.now) area → Holds area p.now →
         CountsLeaf (first_at p.now (leaves_of (tree_seen tree.now) area)) result }
 {
-    let k = tree.k;
-    match root_of(tree) {
-        Root::Cut { axis, value, left } => {
-            let left = TreeView { k, bytes: left };
-            if p[usize::from(axis)] < value {
-                count_in(&left, p)
-            } else {
-                let right = rest_of(&left);
-                count_in(&TreeView { k, bytes: right }, p)
-            }
-        }
-        Root::Records { count, .. } => count,
-        Root::Child { .. } => 0,
-        Root::Sibling { .. } => 0,
+    match list_in(tree, p) {
+        Some(list) => list.count,
+        None => 0,
     }
 }
 

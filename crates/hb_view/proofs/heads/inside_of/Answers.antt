@@ -24,8 +24,8 @@ invariant_of-result c =
     let has = has_parts c.args.bytes.now s c.attributes_of-k.result.number c.from.result c.from_place-corners.result.now c.from_place.result.now c.attributes_of-k.ensures c.from.ensures c.from_place-corners.ensures c.from_place.ensures in
     record { room = has.room; is_area = has.is_area }
 
-pub returns : goal.returns
-returns c =
+pub returns-clause-parts : goal.returns-clause-parts
+returns-clause-parts c =
     let s = live_spelled c.args.bytes.now (λ i. omega (arith, c.type_inv.bytes i)) c.requires in
     let has = has_parts c.args.bytes.now s c.attributes_of-k.result.number c.from.result c.from_place-corners.result.now c.from_place.result.now c.attributes_of-k.ensures c.from.ensures c.from_place-corners.ensures c.from_place.ensures in
     live_tells c.args.bytes.now _ s (record { attributes = has.attributes; is_area = s.fields.is_area; area = has.area; tree = has.tree; light = s.light })

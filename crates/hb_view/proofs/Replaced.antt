@@ -1,0 +1,242 @@
+-- Bytes with others in the place of some, and what a page spells then.
+use Rattle.std.proofs.Common.{◌≡◌, ℕ, ◌+◌, ◌-◌, ◌^◌, ◌<◌, ◌≤◌, min, List, [], ◌∷◌, ◌++◌, length, take, drop, replicate, Option, Some, None, refl, sym, ap, subst, ◌∙◌, append_assoc, length-append, arith, inl, inr}
+use Rattle.std.specs.List.{flat_map}
+use Rattle.std.proofs.Math.Seq.{take-append-add}
+use borrow.Rule.Slice.PartMut.{put_mid, Post-is}
+use Rattle.std.proofs.lemmas.Bool.{cases_lt}
+use Rattle.std.proofs.lemmas.List.{append-nil, drop-append-le, drop-drop, drop_at, length-drop, length-replicate, length-take, length-take-le, replicate-append-replicate, take-append-drop, take-replicate, take_all, take_at}
+use Rattle.hb_lemmas.specs.Numbers.{big_endian}
+use Rattle.hb_lemmas.proofs.Numbers.{length_big_endian}
+use Rattle.hb_space.specs.declared.form.TheConstants.{PAGE}
+use Rattle.hb_frag.specs.declared.pages.LivePage.{LivePage}
+use Rattle.hb_frag.specs.declared.pages.Page.{Page}
+use Rattle.hb_frag.specs.declared.pages.Page.TheVariants.{Live, Free}
+use Rattle.hb_frag.specs.Grammar.{HasSpelling, SpellsPage, page_fields, record_bytes}
+use Rattle.hb_page_codec.specs.ReadingPages.{page_of_bytes}
+use Rattle.hb_page_codec.specs.Writing.{Wrote}
+use Rattle.hb_page_codec.proofs.Facts.PageLaws.{page_again}
+use Rattle.hb_view.specs.Splicing.{spliced}
+use Rattle.hb_view.specs.Spots.{IsSpot, MakesRoom, record_with, replaced}
+use Rattle.hb_view.specs.Views.{IsLiveAnd}
+
+-- ---- room
+
+-- drop past a front
+past : (a b : List ℕ) (n m : ℕ) → length a ≡ n → drop (n + m) (a ++ b) ≡ drop m b
+past a b n m long = sym (drop-drop m n (a ++ b)) ∙ ap (λ (xs : List ℕ). drop m xs) (drop_at a b n long)
+
+-- dropped from what was taken
+drop_take : (n m : ℕ) (xs : List ℕ) → n + m ≤ length xs → drop n (take (n + m) xs) ≡ take m (drop n xs)
+drop_take n m xs le =
+    let front : length (take n xs) ≡ n = length-take-le n xs (omega arith) in
+    let parts : take (n + m) xs ≡ take n xs ++ take m (drop n xs) =
+    ap (take (n + m)) (sym (take-append-drop n xs)) ∙ ap (λ (k : ℕ). take (k + m) (take n xs ++ drop n xs)) (sym front) ∙ take-append-add (take n xs) (drop n xs) m in
+    ap (drop n) parts ∙ drop_at (take n xs) (take m (drop n xs)) n front
+
+-- more room: the last bytes come to the place
+pub opened : (old new : List ℕ) (at was now by : ℕ) → at + was ≤ length old → at + now ≤ length old → was + by ≡ now
+    → new ≡ take at old ++ (drop (length old - at - by) (drop at old) ++ take (length old - at - by) (drop at old)) → MakesRoom old at was now new
+opened old new at was now by fits room more is =
+    let t = drop at old in
+    let n = length old - at - by in
+    let long_t : length t ≡ length old - at = length-drop at old in
+    let front : length (take at old) ≡ at = length-take-le at old (omega arith) in
+    let last : length (drop n t) ≡ by = length-drop n t ∙ omega arith in
+    let kept : length (take n t) ≡ n = length-take-le n t (omega arith) in
+    let left : n ≡ was + (length old - (at + now)) = omega arith in
+    let none : was - now ≡ 0 = omega arith in
+    record {
+      long = ap (λ (b : List ℕ). length b) is ∙ length-append (take at old) (drop n t ++ take n t) ∙ omega (arith, front, last, kept, length-append (drop n t) (take n t));
+      front = ap (take at) is ∙ take_at (take at old) (drop n t ++ take n t) at front;
+      behind = ap (drop (at + now)) is
+          ∙ past (take at old) (drop n t ++ take n t) at now front
+          ∙ ap (λ (k : ℕ). drop k (drop n t ++ take n t)) (let e : now ≡ by + was = omega arith in e)
+          ∙ past (drop n t) (take n t) by was last
+          ∙ ap (λ (k : ℕ). drop was (take k t)) left
+          ∙ drop_take was (length old - (at + now)) t (omega arith)
+          ∙ ap (take (length old - (at + now))) (drop-drop was at old)
+          ∙ sym (append-nil (take (length old - (at + now)) (drop (at + was) old)))
+          ∙ ap (λ (k : ℕ). take (length old - (at + now)) (drop (at + was) old) ++ replicate k 0) (sym none);
+    }
+
+-- less room: zeros come behind
+pub closed : (old new : List ℕ) (at was now by : ℕ) → at + was ≤ length old → now + by ≡ was → new ≡ take at old ++ (drop (at + by) old ++ replicate by 0) → MakesRoom old at was now new
+closed old new at was now by fits less is =
+    let front : length (take at old) ≡ at = length-take-le at old (omega arith) in
+    let rest : length (drop (at + by) old) ≡ length old - (at + by) = length-drop (at + by) old in
+    let behind_it : length (drop (at + was) old) ≤ length old - (at + now) = omega (arith, length-drop (at + was) old) in
+    let fewer : by ≡ was - now = omega arith in
+    let there : at + by + now ≡ at + was = omega arith in
+    record {
+      long = ap (λ (b : List ℕ). length b) is ∙ length-append (take at old) (drop (at + by) old ++ replicate by 0) ∙ omega (arith, front, rest, length-append (drop (at + by) old) (replicate by 0), length-replicate by 0);
+      front = ap (take at) is ∙ take_at (take at old) (drop (at + by) old ++ replicate by 0) at front;
+      behind = ap (drop (at + now)) is
+          ∙ past (take at old) (drop (at + by) old ++ replicate by 0) at now front
+          ∙ drop-append-le now (drop (at + by) old) (replicate by 0) (omega arith)
+          ∙ ap (λ (b : List ℕ). b ++ replicate by 0) (drop-drop now (at + by) old ∙ ap (λ (k : ℕ). drop k old) there)
+          ∙ ap (λ (b : List ℕ). b ++ replicate by 0) (sym (take_all (length old - (at + now)) (drop (at + was) old) behind_it))
+          ∙ ap (λ (k : ℕ). take (length old - (at + now)) (drop (at + was) old) ++ replicate k 0) fewer;
+    }
+
+-- a text in that room
+pub filled : (old mid new text : List ℕ) (at was now : ℕ) → MakesRoom old at was now mid → length text ≡ now → new ≡ take at mid ++ (text ++ drop (at + now) mid) → new ≡ replaced at was text old
+filled old mid new text at was now room long is =
+    is ∙ ap (λ (b : List ℕ). b ++ (text ++ drop (at + now) mid)) room.front ∙ ap (λ (b : List ℕ). take at old ++ (text ++ b)) (room.behind ∙ ap (λ (n : ℕ). take (length old - (at + n)) (drop (at + was) old) ++ replicate (was - n) 0) (sym long))
+
+-- none
+pub emptied : (old mid : List ℕ) (at was now : ℕ) → MakesRoom old at was now mid → now ≡ 0 → mid ≡ replaced at was [] old
+emptied old mid at was now room none =
+    filled old mid mid [] at was now room (sym none) (sym (take-append-drop at mid) ∙ ap (λ (n : ℕ). take at mid ++ drop n mid) (let e : at ≡ at + now = omega arith in e))
+
+-- a text over a part of the bytes, as a write to the part leaves it
+pub filled_part : (old mid text : List ℕ) (at was now : ℕ) → MakesRoom old at was now mid → length text ≡ now → put_mid at (at + now - at) mid text ≡ replaced at was text old
+filled_part old mid text at was now room long =
+    filled old mid (put_mid at (at + now - at) mid text) text at was now room long (ap (λ (b : List ℕ). take at mid ++ (text ++ b)) (Post-is at (at + now) mid (omega arith)))
+
+-- what was written over all of a part
+pub wrote_over : (old text new : List ℕ) (end : ℕ) → length old ≡ length text → length new ≡ length old → Wrote old 0 text new end → new ≡ text
+wrote_over old text new end long same wrote =
+    let all : length new ≤ end = omega (arith, long, same, wrote.behind) in
+    sym (take_all end new all) ∙ wrote.front
+
+-- ---- zeros at the end
+
+-- a front of what ends in zeros, with more of them
+zeros_end : (bytes : List ℕ) (zeros m more : ℕ) → length bytes ≤ m → (left : ℕ) × (take m (bytes ++ replicate zeros 0) ++ replicate more 0 ≡ bytes ++ replicate left 0)
+zeros_end bytes zeros m more le =
+    let n = m - length bytes in
+    let step : take m (bytes ++ replicate zeros 0) ≡ bytes ++ take n (replicate zeros 0) =
+    ap (λ (k : ℕ). take k (bytes ++ replicate zeros 0)) (let e : m ≡ length bytes + n = omega arith in e) ∙ take-append-add bytes (replicate zeros 0) n in
+    let some = of_zeros n zeros in (
+      some.0 + more,
+      ap (λ (b : List ℕ). b ++ replicate more 0) (step ∙ ap (λ (b : List ℕ). bytes ++ b) some.1) ∙ append_assoc bytes (replicate some.0 0) (replicate more 0) ∙ ap (λ (b : List ℕ). bytes ++ b) (replicate-append-replicate some.0 more 0),
+    )
+  where
+    of_zeros : (n zeros : ℕ) → (k : ℕ) × (take n (replicate zeros 0) ≡ replicate k 0)
+    of_zeros n zeros = elim (cases_lt zeros n) [
+      | inl lt ↦ (zeros, take_all n (replicate zeros 0) (omega (arith, length-replicate zeros 0)))
+      | inr le ↦ (n, take-replicate n zeros 0 le)
+    ]
+
+-- ---- a page
+
+-- the bytes that a spot tells of, with a record in the place of another and another count
+module _ (bytes p : List ℕ) (page : LivePage) (count_at count at was held : ℕ) (spot : IsSpot bytes p page count_at count at was held) (body : Option (List ℕ)) (room : HasSpelling (Live (spliced p body page))) where
+  abbrev text : List ℕ
+  text = flat_map record_bytes (record_with p body)
+
+  abbrev counted : ℕ
+  counted = count - held + length (record_with p body)
+
+  abbrev counter : List ℕ
+  counter = big_endian 2 count
+
+  pub long : length bytes ≡ length spot.front + (2 + (length spot.before + (length spot.here + (length spot.behind + spot.zeros))))
+  long =
+      ap (λ (b : List ℕ). length b) spot.bytes_are
+      ∙ omega (arith, length-append spot.front (counter ++ (spot.before ++ (spot.here ++ (spot.behind ++ replicate spot.zeros 0)))),
+        length-append counter (spot.before ++ (spot.here ++ (spot.behind ++ replicate spot.zeros 0))), length_big_endian 2 count,
+        length-append spot.before (spot.here ++ (spot.behind ++ replicate spot.zeros 0)), length-append spot.here (spot.behind ++ replicate spot.zeros 0),
+        length-append spot.behind (replicate spot.zeros 0), length-replicate spot.zeros 0)
+
+  pub fits : length spot.front + (2 + (length spot.before + (length text + length spot.behind))) ≤ PAGE
+  fits =
+      let made = ap (λ (b : List ℕ). length b) (spot.made body) in
+      let short = room.short in
+      omega (arith, made, short, length-append spot.front (big_endian 2 counted ++ (spot.before ++ (text ++ spot.behind))),
+        length-append (big_endian 2 counted) (spot.before ++ (text ++ spot.behind)), length_big_endian 2 counted,
+        length-append spot.before (text ++ spot.behind), length-append text spot.behind)
+
+  -- the bytes in front of the record, and those behind it
+  front_taken : take at bytes ≡ spot.front ++ (counter ++ spot.before)
+  front_taken =
+      let parts : bytes ≡ (spot.front ++ (counter ++ spot.before)) ++ (spot.here ++ (spot.behind ++ replicate spot.zeros 0)) =
+      spot.bytes_are ∙ regroup spot.front counter spot.before (spot.here ++ (spot.behind ++ replicate spot.zeros 0)) in
+      ap (take at) parts
+      ∙ take_at (spot.front ++ (counter ++ spot.before)) (spot.here ++ (spot.behind ++ replicate spot.zeros 0)) at
+        (omega (arith, spot.there, length-append spot.front (counter ++ spot.before), length-append counter spot.before, length_big_endian 2 count))
+    where
+      regroup : (a b c d : List ℕ) → a ++ (b ++ (c ++ d)) ≡ (a ++ (b ++ c)) ++ d
+      regroup a b c d = simp append_assoc
+
+  back_dropped : drop (at + was) bytes ≡ spot.behind ++ replicate spot.zeros 0
+  back_dropped =
+      let parts : bytes ≡ (spot.front ++ (counter ++ (spot.before ++ spot.here))) ++ (spot.behind ++ replicate spot.zeros 0) =
+      spot.bytes_are ∙ regroup spot.front counter spot.before spot.here (spot.behind ++ replicate spot.zeros 0) in
+      ap (drop (at + was)) parts
+      ∙ drop_at (spot.front ++ (counter ++ (spot.before ++ spot.here))) (spot.behind ++ replicate spot.zeros 0) (at + was)
+        (omega (arith, spot.there, spot.wide, length-append spot.front (counter ++ (spot.before ++ spot.here)), length-append counter (spot.before ++ spot.here), length-append spot.before spot.here, length_big_endian 2 count))
+    where
+      regroup : (a b c d e : List ℕ) → a ++ (b ++ (c ++ (d ++ e))) ≡ (a ++ (b ++ (c ++ d))) ++ e
+      regroup a b c d e = simp append_assoc
+
+  pub spelled : (new : List ℕ) → length bytes ≡ PAGE → new ≡ take count_at (replaced at was text bytes) ++ big_endian 2 counted ++ drop (count_at + 2) (replaced at was text bytes) → page_of_bytes new ≡ Some (Live (spliced p body page))
+  spelled new page_long is =
+      let m = length bytes - (at + length text) in
+      let le : length spot.behind ≤ m = omega (arith, fits, spot.there) in
+      let end = zeros_end spot.behind spot.zeros m (was - length text) le in
+      let tail : take m (drop (at + was) bytes) ++ replicate (was - length text) 0 ≡ spot.behind ++ replicate end.0 0 = ap (λ (b : List ℕ). take m b ++ replicate (was - length text) 0) back_dropped ∙ end.1 in
+      let back = text ++ (spot.behind ++ replicate end.0 0) in
+      let mid : replaced at was text bytes ≡ spot.front ++ (counter ++ (spot.before ++ back)) =
+      ap (λ (b : List ℕ). b ++ (text ++ (take m (drop (at + was) bytes) ++ replicate (was - length text) 0))) front_taken ∙ ap (λ (b : List ℕ). (spot.front ++ (counter ++ spot.before)) ++ (text ++ b)) tail ∙ regroup spot.front counter spot.before back in
+      let head : take count_at (replaced at was text bytes) ≡ spot.front = ap (take count_at) mid ∙ take_at spot.front (counter ++ (spot.before ++ back)) count_at (sym spot.count_there) in
+      let rest : drop (count_at + 2) (replaced at was text bytes) ≡ spot.before ++ back =
+      ap (drop (count_at + 2)) mid ∙ past spot.front (counter ++ (spot.before ++ back)) count_at 2 (sym spot.count_there) ∙ drop_at counter (spot.before ++ back) 2 (length_big_endian 2 count) in
+      let whole : new ≡ page_fields (Live (spliced p body page)) ++ replicate end.0 0 =
+      is ∙ (λ i. head i ++ big_endian 2 counted ++ rest i) ∙ again spot.front (big_endian 2 counted) spot.before text spot.behind (replicate end.0 0) ∙ ap (λ (b : List ℕ). b ++ replicate end.0 0) (sym (spot.made body)) in
+      page_again new (Live (spliced p body page)) (record {
+        fits = room.fits;
+        long = ap (λ (b : List ℕ). length b) (is ∙ (λ i. head i ++ big_endian 2 counted ++ rest i))
+            ∙ omega (arith, page_long, long, end_long end.0 tail, spot.there, spot.wide, le, length-append (spot.front ++ big_endian 2 counted) (spot.before ++ back), length-append spot.front (big_endian 2 counted), length_big_endian 2 counted,
+              length-append spot.before back, length-append text (spot.behind ++ replicate end.0 0), length-append spot.behind (replicate end.0 0), length-replicate end.0 0, fits);
+        spelled = (end.0, whole);
+      })
+    where
+      regroup : (a b c d : List ℕ) → (a ++ (b ++ c)) ++ d ≡ a ++ (b ++ (c ++ d))
+      regroup a b c d = simp append_assoc
+
+      again : (a b c d e f : List ℕ) → a ++ b ++ (c ++ (d ++ (e ++ f))) ≡ (a ++ (b ++ (c ++ (d ++ e)))) ++ f
+      again a b c d e f = simp append_assoc
+
+      -- how many bytes the tail has
+      end_long : (left : ℕ) → take (length bytes - (at + length text)) (drop (at + was) bytes) ++ replicate (was - length text) 0 ≡ spot.behind ++ replicate left 0
+          → length spot.behind + left ≡ min (length bytes - (at + length text)) (length bytes - (at + was)) + (was - length text)
+      end_long left e =
+          let m = length bytes - (at + length text) in
+          sym (ap (λ (b : List ℕ). length b) e ∙ length-append spot.behind (replicate left 0) ∙ ap (λ (n : ℕ). length spot.behind + n) (length-replicate left 0))
+          ∙ length-append (take m (drop (at + was) bytes)) (replicate (was - length text) 0)
+          ∙ (λ i. (length-take m (drop (at + was) bytes) ∙ ap (λ (n : ℕ). min m n) (length-drop (at + was) bytes)) i + length-replicate (was - length text) 0 i)
+
+-- ---- as it is told of the bytes alone
+
+-- where the record and the count stand is inside of the bytes, and the count has its place
+pub record StandsInside (bytes text : List ℕ) (count_at count at was held one : ℕ) : Type 0 where
+  pub before : at + was ≤ length bytes
+  pub after : at + length text ≤ length bytes
+  pub counter : count_at + 2 ≤ length bytes
+  pub some : held ≤ count
+  pub place : count - held + one < 2 ^ 16
+
+pub stands_inside : (bytes p : List ℕ) (q : Page) (body : Option (List ℕ)) (count_at count at was held : ℕ) → length bytes ≡ PAGE → IsLiveAnd q (λ page. IsSpot bytes p page count_at count at was held) → IsLiveAnd q (λ page. HasSpelling (Live (spliced p body page)))
+    → StandsInside bytes (flat_map record_bytes (record_with p body)) count_at count at was held (length (record_with p body))
+stands_inside bytes p (Free next) body count_at count at was held page_long spot room = absurd spot
+stands_inside bytes p (Live page) body count_at count at was held page_long spot room =
+    let l = long bytes p page count_at count at was held spot body room in
+    let f = fits bytes p page count_at count at was held spot body room in
+    record {
+      before = omega (arith, l, spot.there, spot.wide);
+      after = omega (arith, f, spot.there, page_long);
+      counter = omega (arith, l, spot.count_there);
+      some = spot.some;
+      place = omega (arith, spot.few, one_at_most body);
+    }
+  where
+    one_at_most : (body : Option (List ℕ)) → length (record_with p body) ≤ 1
+    one_at_most (Some body) = omega arith
+    one_at_most None = omega arith
+
+pub splice_spells : (bytes p new : List ℕ) (q : Page) (body : Option (List ℕ)) (count_at count at was held : ℕ) → length bytes ≡ PAGE → IsLiveAnd q (λ page. IsSpot bytes p page count_at count at was held) → IsLiveAnd q (λ page. HasSpelling (Live (spliced p body page)))
+    → new ≡ take count_at (replaced at was (flat_map record_bytes (record_with p body)) bytes) ++ big_endian 2 (count - held + length (record_with p body)) ++ drop (count_at + 2) (replaced at was (flat_map record_bytes (record_with p body)) bytes)
+    → IsLiveAnd q (λ page. page_of_bytes new ≡ Some (Live (spliced p body page)))
+splice_spells bytes p new (Free next) body count_at count at was held page_long spot room is = absurd spot
+splice_spells bytes p new (Live page) body count_at count at was held page_long spot room is = spelled bytes p page count_at count at was held spot body room new page_long is
