@@ -3,9 +3,10 @@
 use Rattle.std.proofs.Common.{◌≡◌, ℕ, ◌+◌, ◌<◌, ◌≤◌, List, [], ◌∷◌, ◌++◌, length, get_or, slice_get, Option, Some, None, refl, sym, ap, subst, ◌∙◌, length-append, arith}
 use Rattle.std.proofs.Math.Nat.{suc-add}
 use Rattle.hb_space.specs.Boxes.{Area, IsArea, Holds, side_below, side_from}
+use Rattle.hb_space.specs.declared.records.Record.{Record}
 use Rattle.hb_frag.specs.declared.leaves.Leaf.{Leaf}
 use Rattle.hb_frag.specs.declared.leaves.Leaf.TheVariants.{Records, Child, Sibling}
-use Rattle.hb_frag.specs.Leaves.{Placed, IsWellCut, first_at, first_named, leaves_of, records_of, siblings, children}
+use Rattle.hb_frag.specs.Leaves.{IsPointer, Placed, IsWellCut, first_at, first_named, leaves_of, records_of, siblings, children}
 use Rattle.hb_frag.specs.Trees.{Tree, Tip, Cut}
 use Rattle.hb_frag.proofs.Facts.NamesListed.{named_behind, named_in_front, siblings-append, children-append}
 use Rattle.hb_ops.proofs.Facts.PlacedLaws.{placed}
