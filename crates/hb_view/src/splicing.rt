@@ -22,8 +22,9 @@ use hb_space::{Body, Point};
 /// Where a point's record stands in the bytes of a page, or would stand.
 #[derive(Clone, Copy)]
 struct Spot {
-    /// Where the number of its leaf's records stands, and that number.
+    /// Where the number of its leaf's records stands.
     count_at: usize,
+    /// That number.
     count: u16,
     /// Where the record begins.
     at: usize,
