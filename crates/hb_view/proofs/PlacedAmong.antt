@@ -1,7 +1,7 @@
 -- The place of a point among records at the front of bytes, and what a body put there makes of them.
-use Rattle.std.proofs.Common.{◌≡◌, ℕ, zero, suc, ◌+◌, ◌-◌, ◌<◌, ◌≤◌, Bool, true, false, cond, List, [], ◌∷◌, ◌++◌, length, get_or, filter, All, AllPairs, Option, Some, None, IsSome, refl, sym, ap, subst, ◌∙◌, append_assoc, arith}
+use Rattle.std.proofs.Common.{◌≡◌, ℕ, ◌+◌, ◌-◌, ◌<◌, ◌≤◌, Bool, true, false, cond, List, [], ◌∷◌, ◌++◌, filter, All, AllPairs, Option, Some, None, IsSome, refl, sym, ap, subst, ◌∙◌, append_assoc, arith}
 use Rattle.std.specs.List.{flat_map}
-use Rattle.std.specs.Ordering.{is_gt, is_lt, is_ne, ordering_reverse}
+use Rattle.std.specs.Ordering.{is_gt, is_lt, is_ne}
 use Rattle.std.specs.declared.cmp.Ordering.{Ordering}
 use Rattle.std.specs.declared.cmp.Ordering.TheVariants.{Less, Equal, Greater}
 use Rattle.std.proofs.lemmas.Cmp.{nat_list_cmp_total}
@@ -15,7 +15,6 @@ use Rattle.hb_space.specs.declared.records.Record.{Record}
 use Rattle.hb_space.proofs.Facts.PointOrder.{turned}
 use Rattle.hb_frag.specs.Grammar.{record_bytes}
 use Rattle.hb_frag.specs.Rules.{Precedes}
-use Rattle.hb_ops.specs.Recording.{joined, without}
 use Rattle.hb_page_codec.specs.Exact.{AreBytes}
 use Rattle.hb_page_codec.specs.ReadingFields.{record_at, records_at}
 use Rattle.hb_page_codec.specs.Reading.{many_at}

@@ -1,5 +1,5 @@
 -- Bytes with others in the place of some, and what a page spells then.
-use Rattle.std.proofs.Common.{◌≡◌, ℕ, ◌+◌, ◌-◌, ◌*◌, ◌^◌, ◌<◌, ◌≤◌, min, List, [], ◌∷◌, ◌++◌, length, take, drop, replicate, Option, Some, None, refl, sym, ap, subst, ◌∙◌, append_assoc, length-append, arith, inl, inr}
+use Rattle.std.proofs.Common.{◌≡◌, ℕ, ◌+◌, ◌-◌, ◌*◌, ◌^◌, ◌<◌, ◌≤◌, min, List, [], ◌∷◌, ◌++◌, length, take, drop, replicate, Option, Some, None, sym, ap, ◌∙◌, append_assoc, length-append, arith, inl, inr}
 use Rattle.std.specs.List.{flat_map}
 use Rattle.std.proofs.Math.Seq.{take-append-add}
 use borrow.Rule.Slice.PartMut.{mid_of, post_of, put_mid, mid_len, Post-is}
@@ -13,7 +13,7 @@ use Rattle.hb_space.specs.declared.records.Record.{Record}
 use Rattle.hb_frag.specs.declared.pages.LivePage.{LivePage}
 use Rattle.hb_frag.specs.declared.pages.Page.{Page}
 use Rattle.hb_frag.specs.declared.pages.Page.TheVariants.{Live, Free}
-use Rattle.hb_frag.specs.Grammar.{HasSpelling, SpellsPage, page_fields, point_bytes, record_bytes}
+use Rattle.hb_frag.specs.Grammar.{HasSpelling, page_fields, point_bytes, record_bytes}
 use Rattle.hb_page_codec.specs.ReadingPages.{page_of_bytes}
 use Rattle.hb_page_codec.specs.Writing.{Wrote}
 use Rattle.hb_page_codec.proofs.Facts.Fields.{length_point}
@@ -169,18 +169,31 @@ module _ (bytes p : List ℕ) (page : LivePage) (count_at count at was held : �
   pub long : length bytes ≡ length spot.front + (2 + (length spot.before + (length spot.here + (length spot.behind + spot.zeros))))
   long =
       ap (λ (b : List ℕ). length b) spot.bytes_are
-      ∙ omega (arith, length-append spot.front (counter ++ (spot.before ++ (spot.here ++ (spot.behind ++ replicate spot.zeros 0)))),
-        length-append counter (spot.before ++ (spot.here ++ (spot.behind ++ replicate spot.zeros 0))), length_big_endian 2 count,
-        length-append spot.before (spot.here ++ (spot.behind ++ replicate spot.zeros 0)), length-append spot.here (spot.behind ++ replicate spot.zeros 0),
-        length-append spot.behind (replicate spot.zeros 0), length-replicate {A = ℕ} spot.zeros 0)
+      ∙ omega (
+        arith,
+        length-append spot.front (counter ++ (spot.before ++ (spot.here ++ (spot.behind ++ replicate spot.zeros 0)))),
+        length-append counter (spot.before ++ (spot.here ++ (spot.behind ++ replicate spot.zeros 0))),
+        length_big_endian 2 count,
+        length-append spot.before (spot.here ++ (spot.behind ++ replicate spot.zeros 0)),
+        length-append spot.here (spot.behind ++ replicate spot.zeros 0),
+        length-append spot.behind (replicate spot.zeros 0),
+        length-replicate {A = ℕ} spot.zeros 0,
+      )
 
   pub fits : length spot.front + (2 + (length spot.before + (length text + length spot.behind))) ≤ PAGE
   fits =
       let made = ap (λ (b : List ℕ). length b) (spot.made body) in
       let short = room.short in
-      omega (arith, made, short, length-append spot.front (big_endian 2 counted ++ (spot.before ++ (text ++ spot.behind))),
-        length-append (big_endian 2 counted) (spot.before ++ (text ++ spot.behind)), length_big_endian 2 counted,
-        length-append spot.before (text ++ spot.behind), length-append text spot.behind)
+      omega (
+        arith,
+        made,
+        short,
+        length-append spot.front (big_endian 2 counted ++ (spot.before ++ (text ++ spot.behind))),
+        length-append (big_endian 2 counted) (spot.before ++ (text ++ spot.behind)),
+        length_big_endian 2 counted,
+        length-append spot.before (text ++ spot.behind),
+        length-append text spot.behind,
+      )
 
   -- the bytes in front of the record, and those behind it
   front_taken : take at bytes ≡ spot.front ++ (counter ++ spot.before)
@@ -189,7 +202,7 @@ module _ (bytes p : List ℕ) (page : LivePage) (count_at count at was held : �
       spot.bytes_are ∙ regroup spot.front counter spot.before (spot.here ++ (spot.behind ++ replicate spot.zeros 0)) in
       ap (take at) parts
       ∙ take_at (spot.front ++ (counter ++ spot.before)) (spot.here ++ (spot.behind ++ replicate spot.zeros 0)) at
-        (omega (arith, spot.there, length-append spot.front (counter ++ spot.before), length-append counter spot.before, length_big_endian 2 count))
+      (omega (arith, spot.there, length-append spot.front (counter ++ spot.before), length-append counter spot.before, length_big_endian 2 count))
     where
       regroup : (a b c d : List ℕ) → a ++ (b ++ (c ++ d)) ≡ (a ++ (b ++ c)) ++ d
       regroup a b c d = simp append_assoc
@@ -200,7 +213,7 @@ module _ (bytes p : List ℕ) (page : LivePage) (count_at count at was held : �
       spot.bytes_are ∙ regroup spot.front counter spot.before spot.here (spot.behind ++ replicate spot.zeros 0) in
       ap (drop (at + was)) parts
       ∙ drop_at (spot.front ++ (counter ++ (spot.before ++ spot.here))) (spot.behind ++ replicate spot.zeros 0) (at + was)
-        (omega (arith, spot.there, spot.wide, length-append spot.front (counter ++ (spot.before ++ spot.here)), length-append counter (spot.before ++ spot.here), length-append spot.before spot.here, length_big_endian 2 count))
+      (omega (arith, spot.there, spot.wide, length-append spot.front (counter ++ (spot.before ++ spot.here)), length-append counter (spot.before ++ spot.here), length-append spot.before spot.here, length_big_endian 2 count))
     where
       regroup : (a b c d e : List ℕ) → a ++ (b ++ (c ++ (d ++ e))) ≡ (a ++ (b ++ (c ++ d))) ++ e
       regroup a b c d e = simp append_assoc
@@ -222,8 +235,23 @@ module _ (bytes p : List ℕ) (page : LivePage) (count_at count at was held : �
       page_again new (Live (spliced p body page)) (record {
         fits = room.fits;
         long = ap (λ (b : List ℕ). length b) (is ∙ (λ i. head i ++ big_endian 2 counted ++ rest i))
-            ∙ omega (arith, page_long, long, end_long end.0 tail, spot.there, spot.wide, le, length-append (spot.front ++ big_endian 2 counted) (spot.before ++ back), length-append spot.front (big_endian 2 counted), length_big_endian 2 counted,
-              length-append spot.before back, length-append text (spot.behind ++ replicate end.0 0), length-append spot.behind (replicate end.0 0), length-replicate {A = ℕ} end.0 0, fits);
+            ∙ omega (
+              arith,
+              page_long,
+              long,
+              end_long end.0 tail,
+              spot.there,
+              spot.wide,
+              le,
+              length-append (spot.front ++ big_endian 2 counted) (spot.before ++ back),
+              length-append spot.front (big_endian 2 counted),
+              length_big_endian 2 counted,
+              length-append spot.before back,
+              length-append text (spot.behind ++ replicate end.0 0),
+              length-append spot.behind (replicate end.0 0),
+              length-replicate {A = ℕ} end.0 0,
+              fits,
+            );
         spelled = (end.0, whole);
       })
     where

@@ -1,13 +1,12 @@
 -- Where the record of a point stands in the bytes of a page in use.
-use Rattle.std.proofs.Common.{◌≡◌, ℕ, ◌+◌, ◌-◌, ◌*◌, ◌^◌, ◌<◌, ◌≤◌, List, [], ◌∷◌, ◌++◌, length, take, drop, replicate, AllPairs, Option, Some, IsSome, refl, sym, ap, subst, ◌∙◌, append_assoc, length-append, arith}
+use Rattle.std.proofs.Common.{◌≡◌, ℕ, ◌+◌, ◌-◌, ◌*◌, ◌≤◌, List, [], ◌∷◌, ◌++◌, length, drop, replicate, AllPairs, Option, Some, IsSome, refl, sym, ap, subst, ◌∙◌, append_assoc, length-append, arith}
 use Rattle.std.specs.List.{flat_map}
-use Rattle.std.proofs.lemmas.List.{append_cancel_left, drop_at, length-drop, length-replicate}
+use Rattle.std.proofs.lemmas.List.{append_cancel_left, drop_at, length-drop}
 use Rattle.std.proofs.lemmas.List.Concat.{flat_map-append, flat_map-cons}
 use Rattle.std.proofs.lemmas.Option.{same_Some}
 use Rattle.hb_lemmas.specs.Numbers.{big_endian}
 use Rattle.hb_lemmas.proofs.Numbers.{length_big_endian}
-use Rattle.hb_space.specs.Boxes.{Area, Holds, IsArea}
-use Rattle.hb_space.specs.declared.form.TheConstants.{PAGE}
+use Rattle.hb_space.specs.Boxes.{Holds, IsArea}
 use Rattle.hb_space.specs.declared.records.Record.{Record}
 use Rattle.hb_frag.specs.declared.leaves.Leaf.{Leaf}
 use Rattle.hb_frag.specs.declared.leaves.Leaf.TheVariants.{Records}
@@ -229,7 +228,7 @@ module _ (bytes p : List ℕ) (page : LivePage) (k : ℕ) (from : List ℕ) (at 
           ∙ ap (λ (b : List ℕ). page_head page ++ b) (tree_changed new)
           ∙ ap (λ (n : ℕ). page_head page ++ (stood.front ++ (big_endian 2 n ++ (flat_map record_bytes new ++ stood.tail)))) counted
           ∙ ap (λ (b : List ℕ). page_head page ++ (stood.front ++ (big_endian 2 (count - held + length mid) ++ (b ++ stood.tail))))
-            (ap (λ (rs : List Record). flat_map record_bytes rs) is ∙ three place.before mid place.after)
+          (ap (λ (rs : List Record). flat_map record_bytes rs) is ∙ three place.before mid place.after)
           ∙ made_parts (page_head page) stood.front (big_endian 2 (count - held + length mid)) before (flat_map record_bytes mid) (flat_map record_bytes place.after) stood.tail
 
       pub spotted : (count_at place_at was : ℕ) → count_at ≡ length bytes - length first - 2 → place_at ≡ length bytes - length there → was ≡ length there - length behind → IsSpot bytes p page count_at count place_at was held
@@ -286,8 +285,15 @@ module _ (bytes p : List ℕ) (inside : Inside) (fits : AreBytes bytes) (ordered
     first_inside =
         let k = inside.tree.k.number in
         let there = stands_there in
-        omega (arith, ap (λ (b : List ℕ). length b) begins, length-drop (4 + 16 * k) bytes, ap (λ (b : List ℕ). length b) there.bytes_are, length-append there.front (big_endian 2 list.count ++ list.first.now),
-          length-append (big_endian 2 list.count) list.first.now, length_big_endian 2 list.count)
+        omega (
+          arith,
+          ap (λ (b : List ℕ). length b) begins,
+          length-drop (4 + 16 * k) bytes,
+          ap (λ (b : List ℕ). length b) there.bytes_are,
+          length-append there.front (big_endian 2 list.count ++ list.first.now),
+          length-append (big_endian 2 list.count) list.first.now,
+          length_big_endian 2 list.count,
+        )
 
     pub list_rises : AllPairs Precedes (list_seen list)
     list_rises = subst (λ (rs : List Record). AllPairs Precedes rs) (sym seen) (rising bytes p known.page inside.tree.k.number inside.tree.bytes.now known.at list.count list.first.now leads)

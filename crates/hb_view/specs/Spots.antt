@@ -7,7 +7,7 @@ use Rattle.hb_space.specs.declared.records.Record.{Record}
 use Rattle.hb_frag.specs.declared.leaves.Leaf.TheVariants.{Records}
 use Rattle.hb_frag.specs.declared.pages.LivePage.{LivePage}
 use Rattle.hb_frag.specs.declared.pages.Page.TheVariants.{Live}
-use Rattle.hb_frag.specs.Grammar.{leaf_bytes, page_fields, record_bytes, tree_bytes}
+use Rattle.hb_frag.specs.Grammar.{page_fields, record_bytes, tree_bytes}
 use Rattle.hb_frag.specs.Paths.{way_to, with_part}
 use Rattle.hb_frag.specs.Trees.{Tip}
 use Rattle.hb_page_codec.specs.Exact.{AreBytes}

@@ -1,4 +1,4 @@
-use Rattle.std.proofs.Common.{sym, ◌∙◌, arith}
+use Rattle.std.proofs.Common.{sym, ◌∙◌}
 use Rattle.hb_space.specs.declared.records.Record.{Record}
 use Rattle.hb_view.specs.Corners.{point_there}
 use Rattle.hb_view.specs.Lists.{records_there}

@@ -1,4 +1,4 @@
-use Rattle.std.proofs.Common.{◌≡◌, ℕ, List, length, ap, subst, sym, refl, ◌∙◌, arith}
+use Rattle.std.proofs.Common.{ℕ, List, length, ap, subst, sym, refl, ◌∙◌, arith}
 use Rattle.hb_frag.specs.Leaves.{IsPointer}
 use Rattle.hb_view.specs.Roots.{tree_there}
 use Rattle.hb_view.specs.Seen.{list_seen}
