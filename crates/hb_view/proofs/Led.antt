@@ -1,5 +1,5 @@
 -- Where the records stand of the leaf to which a point leads.
-use Rattle.std.proofs.Common.{◌≡◌, ℕ, ◌+◌, ◌*◌, ◌<◌, ◌≤◌, true, false, Bool, cond, List, [], ◌∷◌, ◌++◌, length, get_or, drop, Option, Some, None, IsSome, refl, sym, ap, subst, ◌∙◌, append_assoc, arith, nat_lt}
+use Rattle.std.proofs.Common.{◌≡◌, ℕ, ◌<◌, ◌≤◌, true, false, Bool, cond, List, [], ◌∷◌, ◌++◌, length, get_or, Option, Some, None, IsSome, sym, ap, subst, ◌∙◌, append_assoc, nat_lt}
 use Rattle.std.specs.List.{flat_map}
 use Rattle.std.specs.Option.{MatchOption}
 use Rattle.std.proofs.lemmas.List.{append-nil}
@@ -23,9 +23,9 @@ use Rattle.hb_view.specs.declared.trees.ListView.{ListView}
 use Rattle.hb_view.specs.Behind.{after_or, list_or}
 use Rattle.hb_view.specs.Lists.{records_there}
 use Rattle.hb_view.specs.Roots.{IsCutAt, IsListAt, rest_there, tree_or, tree_there}
-use Rattle.hb_view.specs.Spots.{LeadsToList}
+use Rattle.hb_view.specs.Spots.{LeadsToList, ListStands}
 use Rattle.hb_view.specs.Views.{LeafWithin}
-use Rattle.hb_view.proofs.Walked.{leaf_tip, leaf_left, leaf_right}
+use Rattle.hb_view.proofs.Walked.{leaf_tip, leaf_left, leaf_right, many_counted}
 
 -- a tree at the front of bytes is spelled there
 pub record Stands (k : ℕ) (bytes : List ℕ) : Type 0 where
@@ -44,7 +44,7 @@ stands k bytes fits there =
     }
 
 -- a leaf of records
-list_here : (k : ℕ) (bytes p first : List ℕ) (count : ℕ) → AreBytes bytes → IsSome (tree_at k bytes) → IsListAt k bytes count first → LeadsToList k bytes p count first
+list_here : (k : ℕ) (bytes p first : List ℕ) (count : ℕ) → AreBytes bytes → IsSome (tree_at k bytes) → IsListAt k bytes count first → ListStands k bytes p count first
 list_here k bytes p first count fits there list =
     let s = stands k bytes fits there in
     let same : records_there k count first ≡ list.records = ap list_or list.read in
@@ -54,8 +54,7 @@ list_here k bytes p first count fits there list =
     record {
       front = 1 ∷ [];
       tail = [];
-      leaf = leaf_tip (λ leaf. leaf ≡ Records (records_there k count first)) (tree_there k bytes) (Records list.records) p list.tree (ap Records (sym same));
-      counted = ap (λ (rs : List Record). length rs) same ∙ many.1;
+      first_fits = first_fits;
       bytes_are = spelled ∙ ap (λ (b : List ℕ). 1 ∷ b)
           (append_assoc (big_endian 2 (length list.records)) (flat_map record_bytes list.records) (rest_there k bytes)
           ∙ ap (λ (b : List ℕ). big_endian 2 (length list.records) ++ b) (sym many.0.parts)
@@ -111,7 +110,7 @@ right_way p axis value at t l r part e same le =
     let test : nat_lt (get_or p axis 0) value ≡ false = isnt_below (get_or p axis 0) value (subst (λ (n : ℕ). value ≤ get_or p n 0) same le) in
     ap (λ (u : Tree). with_part (way_to p u) u part) e ∙ ap (λ (b : Bool). with_part (cond b (Left ∷ way_to p l) (Right ∷ way_to p r)) (Cut axis value l r) part) test
 
-list_left : (k : ℕ) (bytes left p first : List ℕ) (axis value at count : ℕ) → CutStands k bytes left axis value → IsCutAt k bytes axis value left → at ≡ axis → get_or p at 0 < value → LeadsToList k left p count first → LeadsToList k bytes p count first
+list_left : (k : ℕ) (bytes left p first : List ℕ) (axis value at count : ℕ) → CutStands k bytes left axis value → IsCutAt k bytes axis value left → at ≡ axis → get_or p at 0 < value → ListStands k left p count first → ListStands k bytes p count first
 list_left k bytes left p first axis value at count s cut same lt led =
     let h = cut_text axis value in
     let right = tree_there k (rest_there k left) in
@@ -120,8 +119,7 @@ list_left k bytes left p first axis value at count s cut same lt led =
     record {
       front = h ++ led.front;
       tail = led.tail ++ tr;
-      leaf = leaf_left (λ leaf. leaf ≡ Records (records_there k count first)) k bytes left axis value at p cut same lt led.leaf;
-      counted = led.counted;
+      first_fits = led.first_fits;
       bytes_are = s.whole ∙ ap (λ (b : List ℕ). h ++ b) led.bytes_are ∙ sym (append_assoc h led.front (big_endian 2 count ++ first));
       first_are = led.first_are ∙ ap (λ (b : List ℕ). all ++ (led.tail ++ b)) s.behind ∙ ap (λ (b : List ℕ). all ++ b) (sym (append_assoc led.tail tr (rest_there k bytes)));
       others = λ records.
@@ -136,7 +134,7 @@ list_left k bytes left p first axis value at count s cut same lt led =
     regroup : (a b c d e f : List ℕ) → a ++ (b ++ (c ++ (d ++ e))) ++ f ≡ (a ++ b) ++ (c ++ (d ++ (e ++ f)))
     regroup a b c d e f = simp append_assoc
 
-list_right : (k : ℕ) (bytes left right p first : List ℕ) (axis value at count : ℕ) → CutStands k bytes left axis value → IsCutAt k bytes axis value left → right ≡ rest_there k left → at ≡ axis → value ≤ get_or p at 0 → LeadsToList k right p count first → LeadsToList k bytes p count first
+list_right : (k : ℕ) (bytes left right p first : List ℕ) (axis value at count : ℕ) → CutStands k bytes left axis value → IsCutAt k bytes axis value left → right ≡ rest_there k left → at ≡ axis → value ≤ get_or p at 0 → ListStands k right p count first → ListStands k bytes p count first
 list_right k bytes left right p first axis value at count s cut r same le led =
     let h = cut_text axis value in
     let tl = tree_bytes (tree_there k left) in
@@ -145,8 +143,7 @@ list_right k bytes left right p first axis value at count s cut r same le led =
     record {
       front = (h ++ tl) ++ led.front;
       tail = led.tail;
-      leaf = leaf_right (λ leaf. leaf ≡ Records (records_there k count first)) k bytes left right axis value at p cut r same le led.leaf;
-      counted = led.counted;
+      first_fits = led.first_fits;
       bytes_are = s.whole
           ∙ ap (λ (b : List ℕ). h ++ b) (s.between ∙ ap (λ (b : List ℕ). tl ++ b) (sym r ∙ led.bytes_are))
           ∙ sym (append_assoc h tl (led.front ++ (big_endian 2 count ++ first)))
@@ -167,26 +164,32 @@ list_right k bytes left right p first axis value at count s cut r same le led =
 abbrev pub Leads : ℕ → List ℕ → List ℕ → Option ListView → Type 0
 Leads k bytes p found = MatchOption found (LeafWithin IsPointer (tree_there k bytes) p) (λ list. LeadsToList k bytes p list.count list.first.now)
 
-pub leads_here : (k : ℕ) (bytes p : List ℕ) (list : ListView) → AreBytes bytes → IsSome (tree_at k bytes) → IsListAt k bytes list.count list.first.now → Leads k bytes p (Some list)
-leads_here k bytes p list fits there at = list_here k bytes p list.first.now list.count fits there at
+pub leads_here : (k : ℕ) (bytes p first : List ℕ) (count : ℕ) → IsSome (tree_at k bytes) → IsListAt k bytes count first → LeadsToList k bytes p count first
+leads_here k bytes p first count there at =
+    let same : records_there k count first ≡ at.records = ap list_or at.read in
+    record {
+      leaf = leaf_tip (λ leaf. leaf ≡ Records (records_there k count first)) (tree_there k bytes) (Records at.records) p at.tree (ap Records (sym same));
+      counted = ap (λ (rs : List Record). length rs) same ∙ many_counted (record_at k) count first (at.records, rest_there k bytes) at.read;
+      stands = λ fits. list_here k bytes p first count fits there at;
+    }
 
 pub leads_nowhere : (k : ℕ) (bytes p : List ℕ) (leaf : Leaf) → tree_there k bytes ≡ Tip leaf → IsPointer leaf → Leads k bytes p None
 leads_nowhere k bytes p leaf e named = leaf_tip IsPointer (tree_there k bytes) leaf p e named
 
-pub leads_left : (k : ℕ) (bytes left p : List ℕ) (axis value at : ℕ) (found : Option ListView) → AreBytes bytes → IsSome (tree_at k bytes) → IsCutAt k bytes axis value left → at ≡ axis → get_or p at 0 < value
-    → (AreBytes left → Leads k left p found) → Leads k bytes p found
-leads_left k bytes left p axis value at None fits there cut same lt led =
-    let s = cut_stands k bytes left axis value fits there cut in
-    leaf_left IsPointer k bytes left axis value at p cut same lt (led s.left_fits)
-leads_left k bytes left p axis value at (Some list) fits there cut same lt led =
-    let s = cut_stands k bytes left axis value fits there cut in
-    list_left k bytes left p list.first.now axis value at list.count s cut same lt (led s.left_fits)
+pub leads_left : (k : ℕ) (bytes left p : List ℕ) (axis value at : ℕ) (found : Option ListView) → IsSome (tree_at k bytes) → IsCutAt k bytes axis value left → at ≡ axis → get_or p at 0 < value → Leads k left p found → Leads k bytes p found
+leads_left k bytes left p axis value at None there cut same lt led = leaf_left IsPointer k bytes left axis value at p cut same lt led
+leads_left k bytes left p axis value at (Some list) there cut same lt led = record {
+  leaf = leaf_left (λ leaf. leaf ≡ Records (records_there k list.count list.first.now)) k bytes left axis value at p cut same lt led.leaf;
+  counted = led.counted;
+  stands = λ fits. let s = cut_stands k bytes left axis value fits there cut in list_left k bytes left p list.first.now axis value at list.count s cut same lt (led.stands s.left_fits);
+}
 
-pub leads_right : (k : ℕ) (bytes left right p : List ℕ) (axis value at : ℕ) (found : Option ListView) → AreBytes bytes → IsSome (tree_at k bytes) → IsCutAt k bytes axis value left → right ≡ rest_there k left → at ≡ axis → value ≤ get_or p at 0
-    → (AreBytes right → Leads k right p found) → Leads k bytes p found
-leads_right k bytes left right p axis value at None fits there cut r same le led =
-    let s = cut_stands k bytes left axis value fits there cut in
-    leaf_right IsPointer k bytes left right axis value at p cut r same le (led (subst (λ (b : List ℕ). AreBytes b) (sym r) s.right_fits))
-leads_right k bytes left right p axis value at (Some list) fits there cut r same le led =
-    let s = cut_stands k bytes left axis value fits there cut in
-    list_right k bytes left right p list.first.now axis value at list.count s cut r same le (led (subst (λ (b : List ℕ). AreBytes b) (sym r) s.right_fits))
+pub leads_right : (k : ℕ) (bytes left right p : List ℕ) (axis value at : ℕ) (found : Option ListView) → IsSome (tree_at k bytes) → IsCutAt k bytes axis value left → right ≡ rest_there k left → at ≡ axis → value ≤ get_or p at 0 → Leads k right p found → Leads k bytes p found
+leads_right k bytes left right p axis value at None there cut r same le led = leaf_right IsPointer k bytes left right axis value at p cut r same le led
+leads_right k bytes left right p axis value at (Some list) there cut r same le led = record {
+  leaf = leaf_right (λ leaf. leaf ≡ Records (records_there k list.count list.first.now)) k bytes left right axis value at p cut r same le led.leaf;
+  counted = led.counted;
+  stands = λ fits.
+      let s = cut_stands k bytes left axis value fits there cut in
+      list_right k bytes left right p list.first.now axis value at list.count s cut r same le (led.stands (subst (λ (b : List ℕ). AreBytes b) (sym r) s.right_fits));
+}

@@ -1,21 +1,19 @@
 -- What a walk over a tree of bytes says of its leaves: which of them names a page first, which stands at a place, and how
 -- many records the one at a point has.
-use Rattle.std.proofs.Common.{◌≡◌, ℕ, ◌+◌, ◌<◌, ◌≤◌, List, [], ◌∷◌, ◌++◌, length, get_or, slice_get, Option, Some, None, refl, sym, ap, subst, ◌∙◌, length-append, arith}
+use Rattle.std.proofs.Common.{◌≡◌, ℕ, ◌+◌, List, [], ◌∷◌, ◌++◌, length, slice_get, Option, Some, None, refl, sym, ap, subst, ◌∙◌, length-append, arith}
 use Rattle.std.proofs.Math.Nat.{suc-add}
 use Rattle.hb_space.specs.Boxes.{Area, IsArea, Holds, side_below, side_from}
+use Rattle.hb_space.specs.declared.records.Record.{Record}
 use Rattle.hb_frag.specs.declared.leaves.Leaf.{Leaf}
 use Rattle.hb_frag.specs.declared.leaves.Leaf.TheVariants.{Records, Child, Sibling}
-use Rattle.hb_frag.specs.Leaves.{Placed, IsWellCut, first_at, first_named, leaves_of, records_of, siblings, children}
-use Rattle.hb_frag.specs.Trees.{Tree, Tip, Cut}
+use Rattle.hb_frag.specs.Leaves.{IsPointer, Placed, IsWellCut, first_at, first_named, leaves_of, records_of, siblings, children}
+use Rattle.hb_frag.specs.Trees.{Tree, Cut}
 use Rattle.hb_frag.proofs.Facts.NamesListed.{named_behind, named_in_front, siblings-append, children-append}
-use Rattle.hb_ops.proofs.Facts.PlacedLaws.{placed}
-use Rattle.hb_page_codec.specs.ReadingFields.{record_at}
 use Rattle.hb_view.specs.declared.leaves.LeafView.{LeafView}
 use Rattle.hb_view.specs.declared.leaves.LeafView.TheVariants as views
 use Rattle.hb_view.specs.Naming.{CountsLeaf, StopsAtLeaf, named_box}
-use Rattle.hb_view.specs.Roots.{tree_there, rest_there, IsCutAt, IsListAt}
+use Rattle.hb_view.specs.Roots.{tree_there, rest_there, IsCutAt}
 use Rattle.hb_view.specs.Views.{LeafWithin, ShowsLeaf}
-use Rattle.hb_view.proofs.Walked.{many_counted, leaf_tip, leaf_left, leaf_right}
 
 -- ---- the leaves of both sides
 

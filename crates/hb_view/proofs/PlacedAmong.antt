@@ -1,7 +1,7 @@
 -- The place of a point among records at the front of bytes, and what a body put there makes of them.
-use Rattle.std.proofs.Common.{◌≡◌, ℕ, zero, suc, ◌+◌, ◌-◌, ◌<◌, ◌≤◌, Bool, true, false, cond, List, [], ◌∷◌, ◌++◌, length, get_or, filter, All, AllPairs, Option, Some, None, IsSome, refl, sym, ap, subst, ◌∙◌, append_assoc, arith}
+use Rattle.std.proofs.Common.{◌≡◌, ℕ, ◌+◌, ◌-◌, ◌<◌, ◌≤◌, Bool, true, false, cond, List, [], ◌∷◌, ◌++◌, filter, All, AllPairs, Option, Some, None, IsSome, refl, sym, ap, subst, ◌∙◌, append_assoc, arith}
 use Rattle.std.specs.List.{flat_map}
-use Rattle.std.specs.Ordering.{is_gt, is_lt, is_ne, ordering_reverse}
+use Rattle.std.specs.Ordering.{is_gt, is_lt, is_ne}
 use Rattle.std.specs.declared.cmp.Ordering.{Ordering}
 use Rattle.std.specs.declared.cmp.Ordering.TheVariants.{Less, Equal, Greater}
 use Rattle.std.proofs.lemmas.Cmp.{nat_list_cmp_total}
@@ -15,7 +15,6 @@ use Rattle.hb_space.specs.declared.records.Record.{Record}
 use Rattle.hb_space.proofs.Facts.PointOrder.{turned}
 use Rattle.hb_frag.specs.Grammar.{record_bytes}
 use Rattle.hb_frag.specs.Rules.{Precedes}
-use Rattle.hb_ops.specs.Recording.{joined, without}
 use Rattle.hb_page_codec.specs.Exact.{AreBytes}
 use Rattle.hb_page_codec.specs.ReadingFields.{record_at, records_at}
 use Rattle.hb_page_codec.specs.Reading.{many_at}
@@ -37,9 +36,10 @@ pub record HasPassed (k count i : ℕ) (first p from : List ℕ) : Type 0 where
   pub lesser : All (IsAt Less p) before
   pub in_front : first ≡ flat_map record_bytes before ++ from
   pub there : IsSome (records_at k (count - i) from)
+  pub fits : AreBytes from
 
-pub passed_none : (k count : ℕ) (first p : List ℕ) → IsSome (records_at k count first) → HasPassed k count 0 first p first
-passed_none k count first p there =
+pub passed_none : (k count : ℕ) (first p : List ℕ) → AreBytes first → IsSome (records_at k count first) → HasPassed k count 0 first p first
+passed_none k count first p fits there =
     let none : count ≡ count - 0 = omega arith in
     record {
       before = [];
@@ -47,12 +47,13 @@ passed_none k count first p there =
       lesser = All-nil (IsAt Less p);
       in_front = refl;
       there = subst (λ n. IsSome (records_at k n first)) none there;
+      fits = fits;
     }
 
 -- one more has a lesser point
-pub passed_one : (k count i : ℕ) (first p from behind : List ℕ) (r : Record) → i < count → AreBytes from → record_at k from ≡ Some (r, behind) → point_cmp r.key p ≡ Less → HasPassed k count i first p from → HasPassed k count (i + 1) first p behind
-passed_one k count i first p from behind r lt fits e less so =
-    let takes = record_takes k from (r, behind) fits e in
+pub passed_one : (k count i : ℕ) (first p from behind : List ℕ) (r : Record) → i < count → record_at k from ≡ Some (r, behind) → point_cmp r.key p ≡ Less → HasPassed k count i first p from → HasPassed k count (i + 1) first p behind
+passed_one k count i first p from behind r lt e less so =
+    let takes = record_takes k from (r, behind) so.fits e in
     let rest = records_there k (count - (i + 1)) behind in
     let one : flat_map record_bytes (so.before ++ r ∷ []) ≡ flat_map record_bytes so.before ++ record_bytes r =
     flat_map-append record_bytes so.before (r ∷ []) ∙ ap (λ (b : List ℕ). flat_map record_bytes so.before ++ b) (flat_map-cons record_bytes r [] ∙ append-nil (record_bytes r)) in
@@ -62,6 +63,7 @@ passed_one k count i first p from behind r lt fits e less so =
       lesser = All-push (IsAt Less p) so.before r so.lesser less;
       in_front = so.in_front ∙ ap (λ (b : List ℕ). flat_map record_bytes so.before ++ b) takes.0.parts ∙ sym (append_assoc (flat_map record_bytes so.before) (record_bytes r) behind) ∙ ap (λ (b : List ℕ). b ++ behind) (sym one);
       there = others_there k count i from r behind lt so.there e;
+      fits = takes.0.rest_fits;
     }
 
 -- ---- where it ends
@@ -77,10 +79,10 @@ behind_equal p r after here all = All-weaker (Precedes r) (IsAt Greater p) (λ s
 behind_greater : (p : List ℕ) (r : Record) (after : List Record) → point_cmp r.key p ≡ Greater → All (Precedes r) after → All (IsAt Greater p) after
 behind_greater p r after here all = All-weaker (Precedes r) (IsAt Greater p) (λ s less. turned p s.key Less (nat_list_cmp_total.trans p r.key s.key (turned r.key p Greater here) less)) after all
 
-pub at_equal : (k count i : ℕ) (first p from behind : List ℕ) (r : Record) → i < count → AreBytes from → record_at k from ≡ Some (r, behind) → point_cmp r.key p ≡ Equal → AllPairs Precedes (records_there k count first) → HasPassed k count i first p from
+pub at_equal : (k count i : ℕ) (first p from behind : List ℕ) (r : Record) → i < count → record_at k from ≡ Some (r, behind) → point_cmp r.key p ≡ Equal → AllPairs Precedes (records_there k count first) → HasPassed k count i first p from
     → IsPlaceAmong p (records_there k count first) first from behind 1
-at_equal k count i first p from behind r lt fits e here rising so =
-    let takes = record_takes k from (r, behind) fits e in
+at_equal k count i first p from behind r lt e here rising so =
+    let takes = record_takes k from (r, behind) so.fits e in
     let after = records_there k (count - (i + 1)) behind in
     let all : records_there k count first ≡ so.before ++ (r ∷ after) = so.all ∙ ap (λ (rs : List Record). so.before ++ rs) (left_list k count i from r behind lt so.there e) in
     let rise = pairs_first Precedes r after (pairs_behind so.before (r ∷ after) (subst (λ (rs : List Record). AllPairs Precedes rs) all rising)) in
@@ -155,10 +157,10 @@ dropped test (r ∷ rs) h = ap (λ (b : Bool). cond b (r ∷ filter test rs) (fi
 -- what a test of the order to a point keeps of lesser, equal and greater records
 module _ (test : Ordering → Bool) (p : List ℕ) where
   keeps : (order : Ordering) (rs : List Record) → All (IsAt order p) rs → test order ≡ true → filter (λ r. test (point_cmp r.key p)) rs ≡ rs
-  keeps order rs all yes = kept (λ r. test (point_cmp r.key p)) rs (All-weaker (IsAt order p) (λ r. test (point_cmp r.key p) ≡ true) (λ r e. ap test e ∙ yes) rs all)
+  keeps order rs all kept_so = kept (λ r. test (point_cmp r.key p)) rs (All-weaker (IsAt order p) (λ r. test (point_cmp r.key p) ≡ true) (λ r e. ap test e ∙ kept_so) rs all)
 
   drops : (order : Ordering) (rs : List Record) → All (IsAt order p) rs → test order ≡ false → filter (λ r. test (point_cmp r.key p)) rs ≡ []
-  drops order rs all no = dropped (λ r. test (point_cmp r.key p)) rs (All-weaker (IsAt order p) (λ r. test (point_cmp r.key p) ≡ false) (λ r e. ap test e ∙ no) rs all)
+  drops order rs all not_so = dropped (λ r. test (point_cmp r.key p)) rs (All-weaker (IsAt order p) (λ r. test (point_cmp r.key p) ≡ false) (λ r e. ap test e ∙ not_so) rs all)
 
   parted : (before here after : List Record) → filter (λ r. test (point_cmp r.key p)) (before ++ (here ++ after)) ≡ filter (λ r. test (point_cmp r.key p)) before ++ (filter (λ r. test (point_cmp r.key p)) here ++ filter (λ r. test (point_cmp r.key p)) after)
   parted before here after =

@@ -1,19 +1,22 @@
 -- Bytes with others in the place of some, and what a page spells then.
-use Rattle.std.proofs.Common.{◌≡◌, ℕ, ◌+◌, ◌-◌, ◌^◌, ◌<◌, ◌≤◌, min, List, [], ◌∷◌, ◌++◌, length, take, drop, replicate, Option, Some, None, refl, sym, ap, subst, ◌∙◌, append_assoc, length-append, arith, inl, inr}
+use Rattle.std.proofs.Common.{◌≡◌, ℕ, ◌+◌, ◌-◌, ◌*◌, ◌^◌, ◌<◌, ◌≤◌, min, List, [], ◌∷◌, ◌++◌, length, take, drop, replicate, Option, Some, None, sym, ap, ◌∙◌, append_assoc, length-append, arith, inl, inr}
 use Rattle.std.specs.List.{flat_map}
 use Rattle.std.proofs.Math.Seq.{take-append-add}
-use borrow.Rule.Slice.PartMut.{put_mid, Post-is}
+use borrow.Rule.Slice.PartMut.{mid_of, post_of, put_mid, mid_len, Post-is}
 use Rattle.std.proofs.lemmas.Bool.{cases_lt}
-use Rattle.std.proofs.lemmas.List.{append-nil, drop-append-le, drop-drop, drop_at, length-drop, length-replicate, length-take, length-take-le, replicate-append-replicate, take-append-drop, take-replicate, take_all, take_at}
+use Rattle.std.proofs.lemmas.List.Concat.{flat_map-cons}
+use Rattle.std.proofs.lemmas.List.{append-nil, drop-append-le, drop-drop, drop_all, drop_at, length-drop, length-replicate, length-take, length-take-le, replicate-append-replicate, take-append-drop, take-replicate, take_all, take_at}
 use Rattle.hb_lemmas.specs.Numbers.{big_endian}
 use Rattle.hb_lemmas.proofs.Numbers.{length_big_endian}
 use Rattle.hb_space.specs.declared.form.TheConstants.{PAGE}
+use Rattle.hb_space.specs.declared.records.Record.{Record}
 use Rattle.hb_frag.specs.declared.pages.LivePage.{LivePage}
 use Rattle.hb_frag.specs.declared.pages.Page.{Page}
 use Rattle.hb_frag.specs.declared.pages.Page.TheVariants.{Live, Free}
-use Rattle.hb_frag.specs.Grammar.{HasSpelling, SpellsPage, page_fields, record_bytes}
+use Rattle.hb_frag.specs.Grammar.{HasSpelling, page_fields, point_bytes, record_bytes}
 use Rattle.hb_page_codec.specs.ReadingPages.{page_of_bytes}
 use Rattle.hb_page_codec.specs.Writing.{Wrote}
+use Rattle.hb_page_codec.proofs.Facts.Fields.{length_point}
 use Rattle.hb_page_codec.proofs.Facts.PageLaws.{page_again}
 use Rattle.hb_view.specs.Splicing.{spliced}
 use Rattle.hb_view.specs.Spots.{IsSpot, MakesRoom, record_with, replaced}
@@ -59,6 +62,32 @@ opened old new at was now by fits room more is =
           ∙ ap (λ (k : ℕ). take (length old - (at + now)) (drop (at + was) old) ++ replicate k 0) (sym none);
     }
 
+-- a turn of all from a place on, and zeros over what it brought to the end
+turned_left : (old part : List ℕ) (at by : ℕ) → at + by ≤ length old → part ≡ drop by (mid_of at (length old - at) old) ++ take by (mid_of at (length old - at) old) → put_mid at (length old - at) old part ≡ (take at old ++ drop (at + by) old) ++ take by (drop at old)
+turned_left old part at by le is =
+    let long : length (drop at old) ≡ length old - at = length-drop at old in
+    let all : mid_of at (length old - at) old ≡ drop at old = take_all (length old - at) (drop at old) (omega (arith, long)) in
+    let none : post_of at (length old - at) old ≡ [] = drop_all (length old - at) (drop at old) (omega (arith, long)) in
+    let turned : part ≡ drop (at + by) old ++ take by (drop at old) = is ∙ ap (λ (b : List ℕ). drop by b ++ take by b) all ∙ ap (λ (b : List ℕ). b ++ take by (drop at old)) (drop-drop by at old) in
+    (λ i. take at old ++ (turned i ++ none i)) ∙ ap (λ (b : List ℕ). take at old ++ b) (append-nil (drop (at + by) old ++ take by (drop at old))) ∙ sym (append_assoc (take at old) (drop (at + by) old) (take by (drop at old)))
+
+pub cleared : (old part zeros whole : List ℕ) (at by : ℕ) → at + by ≤ length old → part ≡ drop by (mid_of at (length old - at) old) ++ take by (mid_of at (length old - at) old) → whole ≡ put_mid at (length old - at) old part
+    → zeros ≡ replicate (length (mid_of (length whole - by) (length whole - (length whole - by)) whole)) 0 → put_mid (length whole - by) (length whole - (length whole - by)) whole zeros ≡ take at old ++ (drop (at + by) old ++ replicate by 0)
+cleared old part zeros whole at by le is made z =
+    let front = take at old ++ drop (at + by) old in
+    let last = take by (drop at old) in
+    let whole_is : whole ≡ front ++ last = made ∙ turned_left old part at by le is in
+    let front_long : length front ≡ length old - by = length-append (take at old) (drop (at + by) old) ∙ omega (arith, length-take-le at old (omega arith), length-drop (at + by) old) in
+    let last_long : length last ≡ by = length-take-le by (drop at old) (omega (arith, length-drop at old)) in
+    let long : length whole ≡ length old = ap (λ (b : List ℕ). length b) whole_is ∙ length-append front last ∙ omega (arith, front_long, last_long) in
+    let kept : take (length whole - by) whole ≡ front = ap (take (length whole - by)) whole_is ∙ take_at front last (length whole - by) (omega (arith, front_long, long)) in
+    let none : post_of (length whole - by) (length whole - (length whole - by)) whole ≡ [] = Post-is (length whole - by) (length whole) whole (omega arith) ∙ drop_all (length whole) whole (omega arith) in
+    let many : length (mid_of (length whole - by) (length whole - (length whole - by)) whole) ≡ by = mid_len (length whole - by) (length whole) whole (omega arith) ∙ omega (arith, long) in
+    (λ i. kept i ++ (z i ++ none i))
+    ∙ ap (λ (n : ℕ). front ++ (replicate n 0 ++ [])) many
+    ∙ ap (λ (b : List ℕ). front ++ b) (append-nil (replicate by 0))
+    ∙ append_assoc (take at old) (drop (at + by) old) (replicate by 0)
+
 -- less room: zeros come behind
 pub closed : (old new : List ℕ) (at was now by : ℕ) → at + was ≤ length old → now + by ≡ was → new ≡ take at old ++ (drop (at + by) old ++ replicate by 0) → MakesRoom old at was now new
 closed old new at was now by fits less is =
@@ -68,7 +97,7 @@ closed old new at was now by fits less is =
     let fewer : by ≡ was - now = omega arith in
     let there : at + by + now ≡ at + was = omega arith in
     record {
-      long = ap (λ (b : List ℕ). length b) is ∙ length-append (take at old) (drop (at + by) old ++ replicate by 0) ∙ omega (arith, front, rest, length-append (drop (at + by) old) (replicate by 0), length-replicate by 0);
+      long = ap (λ (b : List ℕ). length b) is ∙ length-append (take at old) (drop (at + by) old ++ replicate by 0) ∙ omega (arith, front, rest, length-append (drop (at + by) old) (replicate by 0), length-replicate {A = ℕ} by 0);
       front = ap (take at) is ∙ take_at (take at old) (drop (at + by) old ++ replicate by 0) at front;
       behind = ap (drop (at + now)) is
           ∙ past (take at old) (drop (at + by) old ++ replicate by 0) at now front
@@ -93,6 +122,12 @@ pub filled_part : (old mid text : List ℕ) (at was now : ℕ) → MakesRoom old
 filled_part old mid text at was now room long =
     filled old mid (put_mid at (at + now - at) mid text) text at was now room long (ap (λ (b : List ℕ). take at mid ++ (text ++ b)) (Post-is at (at + now) mid (omega arith)))
 
+-- how many bytes the record of a point has
+pub record_wide : (p body : List ℕ) → 8 * length p + 1 + length body ≡ length (flat_map record_bytes (record { key = p; body = body } ∷ []))
+record_wide p body =
+    let r : Record = record { key = p; body = body } in
+    sym (ap (λ (b : List ℕ). length b) (flat_map-cons record_bytes r [] ∙ append-nil (record_bytes r)) ∙ length-append (point_bytes p) (length body ∷ body) ∙ omega (arith, length_point p))
+
 -- what was written over all of a part
 pub wrote_over : (old text new : List ℕ) (end : ℕ) → length old ≡ length text → length new ≡ length old → Wrote old 0 text new end → new ≡ text
 wrote_over old text new end long same wrote =
@@ -112,9 +147,9 @@ zeros_end bytes zeros m more le =
       ap (λ (b : List ℕ). b ++ replicate more 0) (step ∙ ap (λ (b : List ℕ). bytes ++ b) some.1) ∙ append_assoc bytes (replicate some.0 0) (replicate more 0) ∙ ap (λ (b : List ℕ). bytes ++ b) (replicate-append-replicate some.0 more 0),
     )
   where
-    of_zeros : (n zeros : ℕ) → (k : ℕ) × (take n (replicate zeros 0) ≡ replicate k 0)
+    of_zeros : (n zeros : ℕ) → (k : ℕ) × (take {A = ℕ} n (replicate zeros 0) ≡ replicate k 0)
     of_zeros n zeros = elim (cases_lt zeros n) [
-      | inl lt ↦ (zeros, take_all n (replicate zeros 0) (omega (arith, length-replicate zeros 0)))
+      | inl lt ↦ (zeros, take_all {A = ℕ} n (replicate zeros 0) (omega (arith, length-replicate {A = ℕ} zeros 0)))
       | inr le ↦ (n, take-replicate n zeros 0 le)
     ]
 
@@ -134,18 +169,31 @@ module _ (bytes p : List ℕ) (page : LivePage) (count_at count at was held : �
   pub long : length bytes ≡ length spot.front + (2 + (length spot.before + (length spot.here + (length spot.behind + spot.zeros))))
   long =
       ap (λ (b : List ℕ). length b) spot.bytes_are
-      ∙ omega (arith, length-append spot.front (counter ++ (spot.before ++ (spot.here ++ (spot.behind ++ replicate spot.zeros 0)))),
-        length-append counter (spot.before ++ (spot.here ++ (spot.behind ++ replicate spot.zeros 0))), length_big_endian 2 count,
-        length-append spot.before (spot.here ++ (spot.behind ++ replicate spot.zeros 0)), length-append spot.here (spot.behind ++ replicate spot.zeros 0),
-        length-append spot.behind (replicate spot.zeros 0), length-replicate spot.zeros 0)
+      ∙ omega (
+        arith,
+        length-append spot.front (counter ++ (spot.before ++ (spot.here ++ (spot.behind ++ replicate spot.zeros 0)))),
+        length-append counter (spot.before ++ (spot.here ++ (spot.behind ++ replicate spot.zeros 0))),
+        length_big_endian 2 count,
+        length-append spot.before (spot.here ++ (spot.behind ++ replicate spot.zeros 0)),
+        length-append spot.here (spot.behind ++ replicate spot.zeros 0),
+        length-append spot.behind (replicate spot.zeros 0),
+        length-replicate {A = ℕ} spot.zeros 0,
+      )
 
   pub fits : length spot.front + (2 + (length spot.before + (length text + length spot.behind))) ≤ PAGE
   fits =
       let made = ap (λ (b : List ℕ). length b) (spot.made body) in
       let short = room.short in
-      omega (arith, made, short, length-append spot.front (big_endian 2 counted ++ (spot.before ++ (text ++ spot.behind))),
-        length-append (big_endian 2 counted) (spot.before ++ (text ++ spot.behind)), length_big_endian 2 counted,
-        length-append spot.before (text ++ spot.behind), length-append text spot.behind)
+      omega (
+        arith,
+        made,
+        short,
+        length-append spot.front (big_endian 2 counted ++ (spot.before ++ (text ++ spot.behind))),
+        length-append (big_endian 2 counted) (spot.before ++ (text ++ spot.behind)),
+        length_big_endian 2 counted,
+        length-append spot.before (text ++ spot.behind),
+        length-append text spot.behind,
+      )
 
   -- the bytes in front of the record, and those behind it
   front_taken : take at bytes ≡ spot.front ++ (counter ++ spot.before)
@@ -154,7 +202,7 @@ module _ (bytes p : List ℕ) (page : LivePage) (count_at count at was held : �
       spot.bytes_are ∙ regroup spot.front counter spot.before (spot.here ++ (spot.behind ++ replicate spot.zeros 0)) in
       ap (take at) parts
       ∙ take_at (spot.front ++ (counter ++ spot.before)) (spot.here ++ (spot.behind ++ replicate spot.zeros 0)) at
-        (omega (arith, spot.there, length-append spot.front (counter ++ spot.before), length-append counter spot.before, length_big_endian 2 count))
+      (omega (arith, spot.there, length-append spot.front (counter ++ spot.before), length-append counter spot.before, length_big_endian 2 count))
     where
       regroup : (a b c d : List ℕ) → a ++ (b ++ (c ++ d)) ≡ (a ++ (b ++ c)) ++ d
       regroup a b c d = simp append_assoc
@@ -165,7 +213,7 @@ module _ (bytes p : List ℕ) (page : LivePage) (count_at count at was held : �
       spot.bytes_are ∙ regroup spot.front counter spot.before spot.here (spot.behind ++ replicate spot.zeros 0) in
       ap (drop (at + was)) parts
       ∙ drop_at (spot.front ++ (counter ++ (spot.before ++ spot.here))) (spot.behind ++ replicate spot.zeros 0) (at + was)
-        (omega (arith, spot.there, spot.wide, length-append spot.front (counter ++ (spot.before ++ spot.here)), length-append counter (spot.before ++ spot.here), length-append spot.before spot.here, length_big_endian 2 count))
+      (omega (arith, spot.there, spot.wide, length-append spot.front (counter ++ (spot.before ++ spot.here)), length-append counter (spot.before ++ spot.here), length-append spot.before spot.here, length_big_endian 2 count))
     where
       regroup : (a b c d e : List ℕ) → a ++ (b ++ (c ++ (d ++ e))) ≡ (a ++ (b ++ (c ++ d))) ++ e
       regroup a b c d e = simp append_assoc
@@ -187,8 +235,23 @@ module _ (bytes p : List ℕ) (page : LivePage) (count_at count at was held : �
       page_again new (Live (spliced p body page)) (record {
         fits = room.fits;
         long = ap (λ (b : List ℕ). length b) (is ∙ (λ i. head i ++ big_endian 2 counted ++ rest i))
-            ∙ omega (arith, page_long, long, end_long end.0 tail, spot.there, spot.wide, le, length-append (spot.front ++ big_endian 2 counted) (spot.before ++ back), length-append spot.front (big_endian 2 counted), length_big_endian 2 counted,
-              length-append spot.before back, length-append text (spot.behind ++ replicate end.0 0), length-append spot.behind (replicate end.0 0), length-replicate end.0 0, fits);
+            ∙ omega (
+              arith,
+              page_long,
+              long,
+              end_long end.0 tail,
+              spot.there,
+              spot.wide,
+              le,
+              length-append (spot.front ++ big_endian 2 counted) (spot.before ++ back),
+              length-append spot.front (big_endian 2 counted),
+              length_big_endian 2 counted,
+              length-append spot.before back,
+              length-append text (spot.behind ++ replicate end.0 0),
+              length-append spot.behind (replicate end.0 0),
+              length-replicate {A = ℕ} end.0 0,
+              fits,
+            );
         spelled = (end.0, whole);
       })
     where
@@ -203,9 +266,9 @@ module _ (bytes p : List ℕ) (page : LivePage) (count_at count at was held : �
           → length spot.behind + left ≡ min (length bytes - (at + length text)) (length bytes - (at + was)) + (was - length text)
       end_long left e =
           let m = length bytes - (at + length text) in
-          sym (ap (λ (b : List ℕ). length b) e ∙ length-append spot.behind (replicate left 0) ∙ ap (λ (n : ℕ). length spot.behind + n) (length-replicate left 0))
+          sym (ap (λ (b : List ℕ). length b) e ∙ length-append spot.behind (replicate left 0) ∙ ap (λ (n : ℕ). length spot.behind + n) (length-replicate {A = ℕ} left 0))
           ∙ length-append (take m (drop (at + was) bytes)) (replicate (was - length text) 0)
-          ∙ (λ i. (length-take m (drop (at + was) bytes) ∙ ap (λ (n : ℕ). min m n) (length-drop (at + was) bytes)) i + length-replicate (was - length text) 0 i)
+          ∙ (λ i. (length-take m (drop (at + was) bytes) ∙ ap (λ (n : ℕ). min m n) (length-drop (at + was) bytes)) i + length-replicate {A = ℕ} (was - length text) 0 i)
 
 -- ---- as it is told of the bytes alone
 

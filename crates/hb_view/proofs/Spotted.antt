@@ -1,13 +1,12 @@
 -- Where the record of a point stands in the bytes of a page in use.
-use Rattle.std.proofs.Common.{◌≡◌, ℕ, ◌+◌, ◌-◌, ◌*◌, ◌^◌, ◌<◌, ◌≤◌, List, [], ◌∷◌, ◌++◌, length, take, drop, replicate, AllPairs, Option, Some, IsSome, refl, sym, ap, subst, ◌∙◌, append_assoc, length-append, arith}
+use Rattle.std.proofs.Common.{◌≡◌, ℕ, ◌+◌, ◌-◌, ◌*◌, ◌≤◌, List, [], ◌∷◌, ◌++◌, length, drop, replicate, AllPairs, Option, Some, IsSome, refl, sym, ap, subst, ◌∙◌, append_assoc, length-append, arith}
 use Rattle.std.specs.List.{flat_map}
-use Rattle.std.proofs.lemmas.List.{append_cancel_left, drop_at, length-replicate}
+use Rattle.std.proofs.lemmas.List.{append_cancel_left, drop_at, length-drop}
 use Rattle.std.proofs.lemmas.List.Concat.{flat_map-append, flat_map-cons}
 use Rattle.std.proofs.lemmas.Option.{same_Some}
 use Rattle.hb_lemmas.specs.Numbers.{big_endian}
 use Rattle.hb_lemmas.proofs.Numbers.{length_big_endian}
-use Rattle.hb_space.specs.Boxes.{Area, Holds, IsArea}
-use Rattle.hb_space.specs.declared.form.TheConstants.{PAGE}
+use Rattle.hb_space.specs.Boxes.{Holds, IsArea}
 use Rattle.hb_space.specs.declared.records.Record.{Record}
 use Rattle.hb_frag.specs.declared.leaves.Leaf.{Leaf}
 use Rattle.hb_frag.specs.declared.leaves.Leaf.TheVariants.{Records}
@@ -29,7 +28,7 @@ use Rattle.hb_view.specs.Lists.{records_there}
 use Rattle.hb_view.specs.Roots.{rest_there, tree_there}
 use Rattle.hb_view.specs.Splicing.{IsOrderedAt, spliced, with_body}
 use Rattle.hb_view.specs.Spelled.{page_spelled}
-use Rattle.hb_view.specs.Spots.{IsPlaceAmong, IsSpot, LeadsToList, record_with}
+use Rattle.hb_view.specs.Spots.{IsPlaceAmong, IsSpot, LeadsToList, ListStands, record_with}
 use Rattle.hb_view.specs.Views.{HasInside, IsLive, IsLiveAnd, LeafWithin}
 use Rattle.hb_view.specs.declared.trees.Inside.{Inside}
 use Rattle.hb_view.specs.declared.trees.ListView.{ListView}
@@ -168,12 +167,18 @@ module _ (bytes p : List ℕ) (page : LivePage) (k : ℕ) (from : List ℕ) (at 
   head : HeadStands page bytes from
   head = head_stands page bytes from k at.spells at.is_area at.attributes at.begins
 
+  pub from_fits : AreBytes from
+  from_fits = subst (λ (b : List ℕ). AreBytes b) (sym at.begins) (AreBytes-drop (4 + 16 * k) bytes at.fits)
+
   zeros_behind : rest_there k from ≡ replicate head.zeros 0
-  zeros_behind = rest_is page bytes from k head (subst (λ (b : List ℕ). AreBytes b) (sym at.begins) (AreBytes-drop (4 + 16 * k) bytes at.fits)) at.is_there at.tree
+  zeros_behind = rest_is page bytes from k head from_fits at.is_there at.tree
 
   module _ (count : ℕ) (first : List ℕ) (list : LeadsToList k from p count first) where
     abbrev all : List Record
     all = records_there k count first
+
+    abbrev stood : ListStands k from p count first
+    stood = list.stands from_fits
 
     found : FoundAt page p (Records all)
     found = is_found (Records all) list.leaf
@@ -188,8 +193,8 @@ module _ (bytes p : List ℕ) (page : LivePage) (k : ℕ) (from : List ℕ) (at 
         let same : way.0.leaf ≡ Records all = ap (λ (l : Placed). l.leaf) (same_Some way.0 found.0 (sym way.1.first ∙ found.1)) ∙ found.2 in
         sym (way.1.changed (on_records change)) ∙ ap (λ (leaf : Leaf). with_part (way_to p page.frag) page.frag (Tip (on_records change leaf))) same
 
-    tree_changed : (records : List Record) → tree_bytes (with_part (way_to p page.frag) page.frag (Tip (Records records))) ≡ list.front ++ (big_endian 2 (length records) ++ (flat_map record_bytes records ++ list.tail))
-    tree_changed records = ap (λ (t : Tree). tree_bytes (with_part (way_to p t) t (Tip (Records records)))) (sym at.tree) ∙ list.others records
+    tree_changed : (records : List Record) → tree_bytes (with_part (way_to p page.frag) page.frag (Tip (Records records))) ≡ stood.front ++ (big_endian 2 (length records) ++ (flat_map record_bytes records ++ stood.tail))
+    tree_changed records = ap (λ (t : Tree). tree_bytes (with_part (way_to p t) t (Tip (Records records)))) (sym at.tree) ∙ stood.others records
 
     module _ (there behind : List ℕ) (held : ℕ) (place : IsPlaceAmong p all first there behind held) where
       abbrev before : List ℕ
@@ -199,19 +204,19 @@ module _ (bytes p : List ℕ) (page : LivePage) (k : ℕ) (from : List ℕ) (at 
       here = flat_map record_bytes place.here
 
       abbrev after : List ℕ
-      after = flat_map record_bytes place.after ++ list.tail
+      after = flat_map record_bytes place.after ++ stood.tail
 
       first_parts : first ≡ before ++ (here ++ (after ++ replicate head.zeros 0))
       first_parts =
           let fa = flat_map record_bytes place.after in
-          list.first_are
-          ∙ ap (λ (rs : List Record). flat_map record_bytes rs ++ (list.tail ++ rest_there k from)) place.all
-          ∙ ap (λ (b : List ℕ). b ++ (list.tail ++ rest_there k from)) (three place.before place.here place.after)
-          ∙ ap (λ (b : List ℕ). (before ++ (here ++ fa)) ++ (list.tail ++ b)) zeros_behind
-          ∙ joined_parts before here fa list.tail (replicate head.zeros 0)
+          stood.first_are
+          ∙ ap (λ (rs : List Record). flat_map record_bytes rs ++ (stood.tail ++ rest_there k from)) place.all
+          ∙ ap (λ (b : List ℕ). b ++ (stood.tail ++ rest_there k from)) (three place.before place.here place.after)
+          ∙ ap (λ (b : List ℕ). (before ++ (here ++ fa)) ++ (stood.tail ++ b)) zeros_behind
+          ∙ joined_parts before here fa stood.tail (replicate head.zeros 0)
 
       made : (body : Option (List ℕ)) → page_fields (Live (spliced p body page))
-          ≡ (page_head page ++ list.front) ++ (big_endian 2 (count - held + length (record_with p body)) ++ (before ++ (flat_map record_bytes (record_with p body) ++ after)))
+          ≡ (page_head page ++ stood.front) ++ (big_endian 2 (count - held + length (record_with p body)) ++ (before ++ (flat_map record_bytes (record_with p body) ++ after)))
       made body =
           let new = with_body p body all in
           let mid = record_with p body in
@@ -221,22 +226,22 @@ module _ (bytes p : List ℕ) (page : LivePage) (k : ℕ) (from : List ℕ) (at 
           ∙ omega (arith, length_three place.before mid place.after, length_three place.before place.here place.after, ap (λ (rs : List Record). length rs) place.all, list.counted, place.counted) in
           ap (λ (t : Tree). page_head page ++ tree_bytes t) (changed (with_body p body))
           ∙ ap (λ (b : List ℕ). page_head page ++ b) (tree_changed new)
-          ∙ ap (λ (n : ℕ). page_head page ++ (list.front ++ (big_endian 2 n ++ (flat_map record_bytes new ++ list.tail)))) counted
-          ∙ ap (λ (b : List ℕ). page_head page ++ (list.front ++ (big_endian 2 (count - held + length mid) ++ (b ++ list.tail))))
-            (ap (λ (rs : List Record). flat_map record_bytes rs) is ∙ three place.before mid place.after)
-          ∙ made_parts (page_head page) list.front (big_endian 2 (count - held + length mid)) before (flat_map record_bytes mid) (flat_map record_bytes place.after) list.tail
+          ∙ ap (λ (n : ℕ). page_head page ++ (stood.front ++ (big_endian 2 n ++ (flat_map record_bytes new ++ stood.tail)))) counted
+          ∙ ap (λ (b : List ℕ). page_head page ++ (stood.front ++ (big_endian 2 (count - held + length mid) ++ (b ++ stood.tail))))
+          (ap (λ (rs : List Record). flat_map record_bytes rs) is ∙ three place.before mid place.after)
+          ∙ made_parts (page_head page) stood.front (big_endian 2 (count - held + length mid)) before (flat_map record_bytes mid) (flat_map record_bytes place.after) stood.tail
 
       pub spotted : (count_at place_at was : ℕ) → count_at ≡ length bytes - length first - 2 → place_at ≡ length bytes - length there → was ≡ length there - length behind → IsSpot bytes p page count_at count place_at was held
       spotted count_at place_at was ec ea ew =
-          let whole : bytes ≡ (page_head page ++ list.front) ++ (big_endian 2 count ++ first) =
-          head.whole ∙ ap (λ (b : List ℕ). page_head page ++ b) list.bytes_are ∙ sym (append_assoc (page_head page) list.front (big_endian 2 count ++ first)) in
-          let front = page_head page ++ list.front in
+          let whole : bytes ≡ (page_head page ++ stood.front) ++ (big_endian 2 count ++ first) =
+          head.whole ∙ ap (λ (b : List ℕ). page_head page ++ b) stood.bytes_are ∙ sym (append_assoc (page_head page) stood.front (big_endian 2 count ++ first)) in
+          let front = page_head page ++ stood.front in
           let long : length bytes ≡ length front + (2 + length first) =
           ap (λ (b : List ℕ). length b) whole ∙ length-append front (big_endian 2 count ++ first) ∙ omega (arith, length-append (big_endian 2 count) first, length_big_endian 2 count) in
           let in_front : length first ≡ length before + length there = ap (λ (b : List ℕ). length b) place.in_front ∙ length-append before there in
           let wide : length there ≡ length here + length behind = ap (λ (b : List ℕ). length b) place.there ∙ length-append here behind in
           let all_long : length all ≤ length first =
-          omega (arith, many_short all, ap (λ (b : List ℕ). length b) list.first_are, length-append (flat_map record_bytes all) (list.tail ++ rest_there k from)) in
+          omega (arith, many_short all, ap (λ (b : List ℕ). length b) stood.first_are, length-append (flat_map record_bytes all) (stood.tail ++ rest_there k from)) in
           record {
             front = front;
             before = before;
@@ -268,6 +273,27 @@ module _ (bytes p : List ℕ) (inside : Inside) (fits : AreBytes bytes) (ordered
   module _ (list : ListView) (same : list.k.number ≡ inside.tree.k.number) (leads : LeadsToList inside.tree.k.number inside.tree.bytes.now p list.count list.first.now) where
     seen : list_seen list ≡ records_there inside.tree.k.number list.count list.first.now
     seen = ap (λ n. records_there n list.count list.first.now) same
+
+    stands_there : ListStands inside.tree.k.number inside.tree.bytes.now p list.count list.first.now
+    stands_there = leads.stands (from_fits bytes p known.page inside.tree.k.number inside.tree.bytes.now known.at)
+
+    pub list_fits : AreBytes list.first.now
+    list_fits = stands_there.first_fits
+
+    -- the count and the records stand inside of the page
+    pub first_inside : 2 ≤ length bytes - length list.first.now
+    first_inside =
+        let k = inside.tree.k.number in
+        let there = stands_there in
+        omega (
+          arith,
+          ap (λ (b : List ℕ). length b) begins,
+          length-drop (4 + 16 * k) bytes,
+          ap (λ (b : List ℕ). length b) there.bytes_are,
+          length-append there.front (big_endian 2 list.count ++ list.first.now),
+          length-append (big_endian 2 list.count) list.first.now,
+          length_big_endian 2 list.count,
+        )
 
     pub list_rises : AllPairs Precedes (list_seen list)
     list_rises = subst (λ (rs : List Record). AllPairs Precedes rs) (sym seen) (rising bytes p known.page inside.tree.k.number inside.tree.bytes.now known.at list.count list.first.now leads)

@@ -1,5 +1,5 @@
 -- What one step down a tree of bytes says of the whole tree.
-use Rattle.std.proofs.Common.{◌≡◌, ℕ, zero, suc, ◌<◌, ◌≤◌, max, List, [], ◌∷◌, length, get_or, Option, Some, refl, sym, ap, subst, ◌∙◌, arith}
+use Rattle.std.proofs.Common.{◌≡◌, ℕ, zero, suc, ◌<◌, ◌≤◌, max, List, [], ◌∷◌, length, get_or, Option, Some, None, refl, sym, ap, subst, ◌∙◌, arith}
 use Rattle.std.proofs.lemmas.Option.{same_Some}
 use Rattle.hb_space.specs.Boxes.{Area, IsArea, Holds, side_below, side_from}
 use Rattle.hb_space.specs.declared.records.Record.{Record}
@@ -7,18 +7,16 @@ use Rattle.hb_space.proofs.Facts.Boxes.{Holds-side_below, Holds-side_from}
 use Rattle.hb_frag.specs.declared.leaves.Leaf.{Leaf}
 use Rattle.hb_frag.specs.declared.leaves.Leaf.TheVariants as leaves
 use Rattle.hb_frag.specs.Trees.{Tree, Tip, Cut}
-use Rattle.hb_frag.specs.Leaves.{IsPointer, IsWellCut, first_at, leaves_of, records_of, weight_of, Placed}
+use Rattle.hb_frag.specs.Leaves.{IsPointer, IsWellCut, first_at, leaves_of, records_of, weight_of}
 use Rattle.hb_frag.proofs.Facts.Ways.{found_here, found_left, found_right}
 use Rattle.hb_frag.proofs.Facts.Sides.{IsArea-side_below, IsArea-side_from}
 use Rattle.hb_page_codec.specs.Reading.{many_at}
 use Rattle.hb_page_codec.specs.ReadingFields.{record_at}
 use Rattle.hb_view.specs.declared.leaves.LeafView.{LeafView}
-use Rattle.hb_view.specs.Lists.{records_there}
 use Rattle.hb_view.specs.Roots.{tree_there, rest_there, IsCutAt, IsListAt}
 use Rattle.hb_view.specs.Views.{LeafWithin, leaf_view, ShowsLeaf, TellsBody, FindsAmong}
 use Rattle.hb_lemmas.proofs.Options.{bind_some}
 use Rattle.hb_lemmas.specs.Options.{◌>>=◌}
-use Rattle.hb_view.specs.Behind.{list_or}
 
 -- ---- the leaf at a point
 

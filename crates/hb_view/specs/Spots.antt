@@ -7,25 +7,31 @@ use Rattle.hb_space.specs.declared.records.Record.{Record}
 use Rattle.hb_frag.specs.declared.leaves.Leaf.TheVariants.{Records}
 use Rattle.hb_frag.specs.declared.pages.LivePage.{LivePage}
 use Rattle.hb_frag.specs.declared.pages.Page.TheVariants.{Live}
-use Rattle.hb_frag.specs.Grammar.{leaf_bytes, page_fields, record_bytes, tree_bytes}
+use Rattle.hb_frag.specs.Grammar.{page_fields, record_bytes, tree_bytes}
 use Rattle.hb_frag.specs.Paths.{way_to, with_part}
 use Rattle.hb_frag.specs.Trees.{Tip}
+use Rattle.hb_page_codec.specs.Exact.{AreBytes}
 use Rattle.hb_view.specs.Lists.{records_there}
 use Rattle.hb_view.specs.Roots.{rest_there, tree_there}
 use Rattle.hb_view.specs.Splicing.{spliced}
 use Rattle.hb_view.specs.Views.{LeafWithin}
 
--- The point leads to a leaf of so many records in the tree at the front of bytes. They stand behind `front` and their count, and
--- `tail` stands behind them in the tree; so would others in that leaf.
-pub record LeadsToList (k : ℕ) (bytes p : List ℕ) (count : ℕ) (first : List ℕ) : Type 0 where
+-- The records of the leaf to which a point leads stand behind `front` and their count in the tree at the front of bytes, and `tail`
+-- stands behind them; so would others in that leaf.
+pub record ListStands (k : ℕ) (bytes p : List ℕ) (count : ℕ) (first : List ℕ) : Type 0 where
   pub front : List ℕ
   pub tail : List ℕ
-  pub leaf : LeafWithin (λ leaf. leaf ≡ Records (records_there k count first)) (tree_there k bytes) p
-  pub counted : length (records_there k count first) ≡ count
+  pub first_fits : AreBytes first
   pub bytes_are : bytes ≡ front ++ (big_endian 2 count ++ first)
   pub first_are : first ≡ flat_map record_bytes (records_there k count first) ++ (tail ++ rest_there k bytes)
   pub others : (records : List Record) → tree_bytes (with_part (way_to p (tree_there k bytes)) (tree_there k bytes) (Tip (Records records)))
       ≡ front ++ (big_endian 2 (length records) ++ (flat_map record_bytes records ++ tail))
+
+-- the point leads to a leaf of so many records in the tree at the front of bytes
+pub record LeadsToList (k : ℕ) (bytes p : List ℕ) (count : ℕ) (first : List ℕ) : Type 0 where
+  pub leaf : LeafWithin (λ leaf. leaf ≡ Records (records_there k count first)) (tree_there k bytes) p
+  pub counted : length (records_there k count first) ≡ count
+  pub stands : AreBytes bytes → ListStands k bytes p count first
 
 -- A place among records that stand at the front of bytes: those of lesser points stand in front of it, then what the point has, and
 -- behind that those of greater points.

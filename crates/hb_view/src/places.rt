@@ -1,6 +1,7 @@
 //! The place of a point among the records of a leaf, where they stand.
 ghost use Rattle.std.specs.Prelude.{◌≡◌, length, AllPairs};
 ghost use Rattle.hb_frag.specs.Rules.{Precedes};
+ghost use Rattle.hb_page_codec.specs.Exact.{AreBytes};
 ghost use Rattle.hb_view.specs.Seen.{list_seen};
 ghost use Rattle.hb_view.specs.Spots.{IsPlaceAmong};
 
@@ -47,6 +48,7 @@ fn gap(from: &[u8]) -> Place<'_>
 /// The place of the point among records that rise.
 pub(crate) fn place_among<'a>(list: &ListView<'a>, p: &[u64]) -> Place<'a>
     requires attributes { length p.now ≡ list.now.k.number }
+    requires bytes { AreBytes list.now.first.now }
     requires rising { AllPairs Precedes (list_seen list.now) }
     ensures { IsPlaceAmong p.now (list_seen list.now) list.now.first.now result.from.now result.behind.now result.held }
 {

@@ -2,7 +2,7 @@
 //!
 //! Of all the bytes two stretches change: the count of the leaf's records, and from the point's record on. The bytes behind that
 //! record move as one, by a rotation, and so far as they are zeros they come and go at the page's end.
-ghost use Rattle.std.specs.Prelude.{◌≡◌, ◌+◌, ◌-◌, ◌≤◌, ◌++◌, length, take, drop, replicate, option_copied, flat_map, Some};
+ghost use Rattle.std.specs.Prelude.{◌≡◌, ℕ, List, ◌+◌, ◌-◌, ◌≤◌, ◌++◌, length, take, drop, replicate, option_copied, flat_map, Some};
 ghost use Rattle.hb_frag.specs.Grammar.{HasSpelling, record_bytes};
 ghost use Rattle.hb_frag.specs.declared.pages.Page.TheVariants.{Live};
 ghost use Rattle.hb_page_codec.specs.ReadingPages.{page_of_bytes};
@@ -22,8 +22,9 @@ use hb_space::{Body, Point};
 /// Where a point's record stands in the bytes of a page, or would stand.
 #[derive(Clone, Copy)]
 struct Spot {
-    /// Where the number of its leaf's records stands, and that number.
+    /// Where the number of its leaf's records stands.
     count_at: usize,
+    /// That number.
     count: u16,
     /// Where the record begins.
     at: usize,
@@ -39,9 +40,10 @@ fn spot_of(bytes: &[u8], point: &Point) -> Spot
     ensures { IsLiveAnd (page_spelled bytes.now) (λ page.
         IsSpot bytes.now point.now page result.count_at result.count result.at result.was result.held) }
 {
-    match list_in(&inside_of(bytes).tree, point.values()) {
+    let p = point.values();
+    match list_in(&inside_of(bytes).tree, p) {
         Some(list) => {
-            let place = place_among(&list, point.values());
+            let place = place_among(&list, p);
             Spot {
                 count_at: bytes.len() - list.first.len() - 2,
                 count: list.count,
@@ -85,9 +87,9 @@ fn make_room(bytes: &mut [u8], at: usize, was: usize, now: usize)
     }
 }
 
-/// How many records the point has with this body: one, or none where there is no body.
-fn count_with(point: &Point, body: Option<&Body>) -> u16
-    ensures { result ≡ length (record_with point.now (option_copied body.entry)) }
+/// How many records a point has with this body: one, or none where there is no body.
+fn count_with(body: Option<&Body>) -> u16
+    ensures { (point : List ℕ) → result ≡ length (record_with point (option_copied body.entry)) }
 {
     match body {
         Some(_) => 1,
@@ -136,7 +138,7 @@ pub fn splice(bytes: &mut [u8; PAGE], point: &Point, body: Option<&Body>)
     ensures { IsLiveAnd (page_spelled bytes.old) (λ page. page_of_bytes bytes.new ≡ Some (Live (spliced point.now (option_copied body.entry) page))) }
 {
     let spot = spot_of(bytes, point);
-    let count = spot.count - spot.held + count_with(point, body);
+    let count = spot.count - spot.held + count_with(body);
     replace(bytes, spot.at, spot.was, point, body);
     give_u16(bytes, spot.count_at, count);
 }
