@@ -107,21 +107,6 @@ closed old new at was now by fits less is =
           ∙ ap (λ (k : ℕ). take (length old - (at + now)) (drop (at + was) old) ++ replicate k 0) fewer;
     }
 
--- a text in that room
-pub filled : (old mid new text : List ℕ) (at was now : ℕ) → MakesRoom old at was now mid → length text ≡ now → new ≡ take at mid ++ (text ++ drop (at + now) mid) → new ≡ replaced at was text old
-filled old mid new text at was now room long is =
-    is ∙ ap (λ (b : List ℕ). b ++ (text ++ drop (at + now) mid)) room.front ∙ ap (λ (b : List ℕ). take at old ++ (text ++ b)) (room.behind ∙ ap (λ (n : ℕ). take (length old - (at + n)) (drop (at + was) old) ++ replicate (was - n) 0) (sym long))
-
--- none
-pub emptied : (old mid : List ℕ) (at was now : ℕ) → MakesRoom old at was now mid → now ≡ 0 → mid ≡ replaced at was [] old
-emptied old mid at was now room none =
-    filled old mid mid [] at was now room (sym none) (sym (take-append-drop at mid) ∙ ap (λ (n : ℕ). take at mid ++ drop n mid) (let e : at ≡ at + now = omega arith in e))
-
--- a text over a part of the bytes, as a write to the part leaves it
-pub filled_part : (old mid text : List ℕ) (at was now : ℕ) → MakesRoom old at was now mid → length text ≡ now → put_mid at (at + now - at) mid text ≡ replaced at was text old
-filled_part old mid text at was now room long =
-    filled old mid (put_mid at (at + now - at) mid text) text at was now room long (ap (λ (b : List ℕ). take at mid ++ (text ++ b)) (Post-is at (at + now) mid (omega arith)))
-
 -- how many bytes the record of a point has
 pub record_wide : (p body : List ℕ) → 8 * length p + 1 + length body ≡ length (flat_map record_bytes (record { key = p; body = body } ∷ []))
 record_wide p body =
