@@ -2,7 +2,7 @@
 use Rattle.std.proofs.Common.{◌≡◌, ℕ, ◌+◌, ◌-◌, ◌*◌, ◌^◌, ◌<◌, ◌≤◌, min, List, [], ◌∷◌, ◌++◌, length, take, drop, replicate, Option, Some, None, sym, ap, ◌∙◌, append_assoc, length-append, arith, inl, inr}
 use Rattle.std.specs.List.{flat_map}
 use Rattle.std.proofs.Math.Seq.{take-append-add}
-use borrow.Rule.Slice.PartMut.{mid_of, post_of, put_mid, mid_len, Post-is}
+use borrow.Rule.Slice.PartMut.{mid_of, post_of, put_mid}
 use Rattle.std.proofs.lemmas.Bool.{cases_lt}
 use Rattle.std.proofs.lemmas.List.Concat.{flat_map-cons}
 use Rattle.std.proofs.lemmas.List.{append-nil, drop-append-le, drop-drop, drop_all, drop_at, length-drop, length-replicate, length-take, length-take-le, replicate-append-replicate, take-append-drop, take-replicate, take_all, take_at}
@@ -71,22 +71,27 @@ turned_left old part at by le is =
     let turned : part ≡ drop (at + by) old ++ take by (drop at old) = is ∙ ap (λ (b : List ℕ). drop by b ++ take by b) all ∙ ap (λ (b : List ℕ). b ++ take by (drop at old)) (drop-drop by at old) in
     (λ i. take at old ++ (turned i ++ none i)) ∙ ap (λ (b : List ℕ). take at old ++ b) (append-nil (drop (at + by) old ++ take by (drop at old))) ∙ sym (append_assoc (take at old) (drop (at + by) old) (take by (drop at old)))
 
+cleared_end : (old whole zeros : List ℕ) (at by n k : ℕ) → at + by ≤ length old → whole ≡ (take at old ++ drop (at + by) old) ++ take by (drop at old) → n ≡ length old - by → k ≡ by → zeros ≡ replicate (length (mid_of n k whole)) 0
+    → put_mid n k whole zeros ≡ take at old ++ (drop (at + by) old ++ replicate by 0)
+cleared_end old whole zeros at by n k le is en ek z =
+    let front = take at old ++ drop (at + by) old in
+    let last = take by (drop at old) in
+    let front_long : length front ≡ n = length-append (take at old) (drop (at + by) old) ∙ omega (arith, length-take-le at old (omega arith), length-drop (at + by) old, en) in
+    let last_long : length last ≡ k = length-take-le by (drop at old) (omega (arith, length-drop at old)) ∙ sym ek in
+    let kept : take n whole ≡ front = ap (take n) is ∙ take_at front last n front_long in
+    let left : drop n whole ≡ last = ap (drop n) is ∙ drop_at front last n front_long in
+    let many : length (mid_of n k whole) ≡ by = length-take-le k (drop n whole) (omega (arith, ap (λ (b : List ℕ). length b) left, last_long)) ∙ ek in
+    let none : post_of n k whole ≡ [] = drop_all k (drop n whole) (omega (arith, ap (λ (b : List ℕ). length b) left, last_long)) in
+    (λ i. kept i ++ ((z ∙ ap (λ (m : ℕ). replicate m 0) many) i ++ none i)) ∙ ap (λ (b : List ℕ). front ++ b) (append-nil (replicate by 0)) ∙ append_assoc (take at old) (drop (at + by) old) (replicate by 0)
+
 pub cleared : (old part zeros whole : List ℕ) (at by : ℕ) → at + by ≤ length old → part ≡ drop by (mid_of at (length old - at) old) ++ take by (mid_of at (length old - at) old) → whole ≡ put_mid at (length old - at) old part
     → zeros ≡ replicate (length (mid_of (length whole - by) (length whole - (length whole - by)) whole)) 0 → put_mid (length whole - by) (length whole - (length whole - by)) whole zeros ≡ take at old ++ (drop (at + by) old ++ replicate by 0)
 cleared old part zeros whole at by le is made z =
-    let front = take at old ++ drop (at + by) old in
-    let last = take by (drop at old) in
-    let whole_is : whole ≡ front ++ last = made ∙ turned_left old part at by le is in
-    let front_long : length front ≡ length old - by = length-append (take at old) (drop (at + by) old) ∙ omega (arith, length-take-le at old (omega arith), length-drop (at + by) old) in
-    let last_long : length last ≡ by = length-take-le by (drop at old) (omega (arith, length-drop at old)) in
-    let long : length whole ≡ length old = ap (λ (b : List ℕ). length b) whole_is ∙ length-append front last ∙ omega (arith, front_long, last_long) in
-    let kept : take (length whole - by) whole ≡ front = ap (take (length whole - by)) whole_is ∙ take_at front last (length whole - by) (omega (arith, front_long, long)) in
-    let none : post_of (length whole - by) (length whole - (length whole - by)) whole ≡ [] = Post-is (length whole - by) (length whole) whole (omega arith) ∙ drop_all (length whole) whole (omega arith) in
-    let many : length (mid_of (length whole - by) (length whole - (length whole - by)) whole) ≡ by = mid_len (length whole - by) (length whole) whole (omega arith) ∙ omega (arith, long) in
-    (λ i. kept i ++ (z i ++ none i))
-    ∙ ap (λ (n : ℕ). front ++ (replicate n 0 ++ [])) many
-    ∙ ap (λ (b : List ℕ). front ++ b) (append-nil (replicate by 0))
-    ∙ append_assoc (take at old) (drop (at + by) old) (replicate by 0)
+    let turned = made ∙ turned_left old part at by le is in
+    let long : length whole ≡ length old =
+    ap (λ (b : List ℕ). length b) turned ∙ length-append (take at old ++ drop (at + by) old) (take by (drop at old))
+    ∙ omega (arith, length-append (take at old) (drop (at + by) old), length-take-le at old (omega arith), length-drop (at + by) old, length-take-le by (drop at old) (omega (arith, length-drop at old))) in
+    cleared_end old whole zeros at by (length whole - by) (length whole - (length whole - by)) le turned (omega (arith, long)) (omega (arith, long)) z
 
 -- less room: zeros come behind
 pub closed : (old new : List ℕ) (at was now by : ℕ) → at + was ≤ length old → now + by ≡ was → new ≡ take at old ++ (drop (at + by) old ++ replicate by 0) → MakesRoom old at was now new

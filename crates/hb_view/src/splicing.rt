@@ -91,10 +91,7 @@ fn make_room(bytes: &mut [u8], at: usize, was: usize, now: usize)
 fn count_with(body: Option<&Body>) -> u16
     ensures { (point : List ℕ) → result ≡ length (record_with point (option_copied body.entry)) }
 {
-    match body {
-        Some(_) => 1,
-        None => 0,
-    }
+    u16::from(body.is_some())
 }
 
 /// How many bytes they have.
