@@ -1,7 +1,7 @@
 //! A body put at a point of a page, or taken from it, in the page's bytes.
 //!
 //! Of all the bytes two stretches change: the count of the leaf's records, and from the point's record on. The bytes behind that
-//! record move as one, by a rotation, and so far as they are zeros they come and go at the page's end.
+//! record move as one, from a copy of the page, and so far as they are zeros they come and go at the page's end.
 ghost use Rattle.std.specs.Prelude.{◌≡◌, ℕ, List, ◌+◌, ◌-◌, ◌≤◌, ◌++◌, length, take, drop, replicate, option_copied, flat_map, Some};
 ghost use Rattle.hb_frag.specs.Grammar.{HasSpelling, record_bytes};
 ghost use Rattle.hb_frag.specs.declared.pages.Page.TheVariants.{Live};
