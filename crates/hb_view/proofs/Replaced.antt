@@ -1,8 +1,8 @@
 -- Bytes with others in the place of some, and what a page spells then.
-use Rattle.std.proofs.Common.{◌≡◌, ℕ, ◌+◌, ◌-◌, ◌*◌, ◌^◌, ◌<◌, ◌≤◌, min, List, [], ◌∷◌, ◌++◌, length, take, drop, replicate, Option, Some, None, sym, ap, ◌∙◌, append_assoc, length-append, arith, inl, inr}
+use Rattle.std.proofs.Common.{◌≡◌, ℕ, ◌+◌, ◌-◌, ◌*◌, ◌^◌, ◌<◌, ◌≤◌, min, List, [], ◌∷◌, ◌++◌, length, take, drop, replicate, Option, Some, None, refl, sym, ap, ◌∙◌, append_assoc, length-append, arith, inl, inr}
 use Rattle.std.specs.List.{flat_map}
 use Rattle.std.proofs.Math.Seq.{take-append-add}
-use borrow.Rule.Slice.PartMut.{mid_of, post_of, put_mid, mid_len, Post-is}
+use borrow.Rule.Slice.PartMut.{mid_of, post_of, put_mid}
 use Rattle.std.proofs.lemmas.Bool.{cases_lt}
 use Rattle.std.proofs.lemmas.List.Concat.{flat_map-cons}
 use Rattle.std.proofs.lemmas.List.{append-nil, drop-append-le, drop-drop, drop_all, drop_at, length-drop, length-replicate, length-take, length-take-le, replicate-append-replicate, take-append-drop, take-replicate, take_all, take_at}
@@ -28,64 +28,83 @@ use Rattle.hb_view.specs.Views.{IsLiveAnd}
 past : (a b : List ℕ) (n m : ℕ) → length a ≡ n → drop (n + m) (a ++ b) ≡ drop m b
 past a b n m long = sym (drop-drop m n (a ++ b)) ∙ ap (λ (xs : List ℕ). drop m xs) (drop_at a b n long)
 
+-- taken in two parts
+taken_on : (n m : ℕ) (xs : List ℕ) → n + m ≤ length xs → take (n + m) xs ≡ take n xs ++ take m (drop n xs)
+taken_on n m xs le =
+    let front : length (take n xs) ≡ n = length-take-le n xs (omega arith) in
+    ap (take (n + m)) (sym (take-append-drop n xs)) ∙ ap (λ (k : ℕ). take (k + m) (take n xs ++ drop n xs)) (sym front) ∙ take-append-add (take n xs) (drop n xs) m
+
 -- dropped from what was taken
 drop_take : (n m : ℕ) (xs : List ℕ) → n + m ≤ length xs → drop n (take (n + m) xs) ≡ take m (drop n xs)
-drop_take n m xs le =
-    let front : length (take n xs) ≡ n = length-take-le n xs (omega arith) in
-    let parts : take (n + m) xs ≡ take n xs ++ take m (drop n xs) =
-    ap (take (n + m)) (sym (take-append-drop n xs)) ∙ ap (λ (k : ℕ). take (k + m) (take n xs ++ drop n xs)) (sym front) ∙ take-append-add (take n xs) (drop n xs) m in
-    ap (drop n) parts ∙ drop_at (take n xs) (take m (drop n xs)) n front
+drop_take n m xs le = ap (drop n) (taken_on n m xs le) ∙ drop_at (take n xs) (take m (drop n xs)) n (length-take-le n xs (omega arith))
 
--- more room: the last bytes come to the place
+-- what a part gets of a copy moves on
+pub moved_on : (old copy part : List ℕ) (at by : ℕ) → copy ≡ old → at + by ≤ length old → part ≡ mid_of at (length copy - by - at) copy
+    → put_mid (at + by) (length old - (at + by)) old part ≡ take (at + by) old ++ take (length old - at - by) (drop at old)
+moved_on old copy part at by same le is =
+    let n = length old - at - by in
+    let some : length copy - by - at ≡ n = omega (arith, ap (λ (b : List ℕ). length b) same) in
+    let moved : part ≡ take n (drop at old) = is ∙ (λ i. take (some i) (drop at (same i))) in
+    let none : post_of (at + by) (length old - (at + by)) old ≡ [] = drop_all (length old - (at + by)) (drop (at + by) old) (omega (arith, length-drop (at + by) old)) in
+    (λ i. take (at + by) old ++ (moved i ++ none i)) ∙ ap (λ (b : List ℕ). take (at + by) old ++ b) (append-nil (take n (drop at old)))
+
+-- more room: what stands from the place on moves on
 pub opened : (old new : List ℕ) (at was now by : ℕ) → at + was ≤ length old → at + now ≤ length old → was + by ≡ now
-    → new ≡ take at old ++ (drop (length old - at - by) (drop at old) ++ take (length old - at - by) (drop at old)) → MakesRoom old at was now new
+    → new ≡ take (at + by) old ++ take (length old - at - by) (drop at old) → MakesRoom old at was now new
 opened old new at was now by fits room more is =
     let t = drop at old in
     let n = length old - at - by in
-    let long_t : length t ≡ length old - at = length-drop at old in
-    let front : length (take at old) ≡ at = length-take-le at old (omega arith) in
-    let last : length (drop n t) ≡ by = length-drop n t ∙ omega arith in
-    let kept : length (take n t) ≡ n = length-take-le n t (omega arith) in
+    let front = take (at + by) old in
+    let inside : at + by ≤ length old = omega arith in
+    let front_long : length front ≡ at + by = length-take-le (at + by) old inside in
+    let kept : length (take n t) ≡ n = length-take-le n t (omega (arith, length-drop at old)) in
     let left : n ≡ was + (length old - (at + now)) = omega arith in
     let none : was - now ≡ 0 = omega arith in
     record {
-      long = ap (λ (b : List ℕ). length b) is ∙ length-append (take at old) (drop n t ++ take n t) ∙ omega (arith, front, last, kept, length-append (drop n t) (take n t));
-      front = ap (take at) is ∙ take_at (take at old) (drop n t ++ take n t) at front;
+      long = ap (λ (b : List ℕ). length b) is ∙ length-append front (take n t) ∙ omega (arith, front_long, kept);
+      front = ap (take at) is
+          ∙ ap (λ (b : List ℕ). take at (b ++ take n t)) (taken_on at by old inside)
+          ∙ ap (take at) (append_assoc (take at old) (take by t) (take n t))
+          ∙ take_at (take at old) (take by t ++ take n t) at (length-take-le at old (omega arith));
       behind = ap (drop (at + now)) is
-          ∙ past (take at old) (drop n t ++ take n t) at now front
-          ∙ ap (λ (k : ℕ). drop k (drop n t ++ take n t)) (let e : now ≡ by + was = omega arith in e)
-          ∙ past (drop n t) (take n t) by was last
+          ∙ ap (λ (k : ℕ). drop k (front ++ take n t)) (let e : at + now ≡ at + by + was = omega arith in e)
+          ∙ past front (take n t) (at + by) was front_long
           ∙ ap (λ (k : ℕ). drop was (take k t)) left
-          ∙ drop_take was (length old - (at + now)) t (omega arith)
+          ∙ drop_take was (length old - (at + now)) t (omega (arith, length-drop at old))
           ∙ ap (take (length old - (at + now))) (drop-drop was at old)
           ∙ sym (append-nil (take (length old - (at + now)) (drop (at + was) old)))
           ∙ ap (λ (k : ℕ). take (length old - (at + now)) (drop (at + was) old) ++ replicate k 0) (sym none);
     }
 
--- a turn of all from a place on, and zeros over what it brought to the end
-turned_left : (old part : List ℕ) (at by : ℕ) → at + by ≤ length old → part ≡ drop by (mid_of at (length old - at) old) ++ take by (mid_of at (length old - at) old) → put_mid at (length old - at) old part ≡ (take at old ++ drop (at + by) old) ++ take by (drop at old)
-turned_left old part at by le is =
-    let long : length (drop at old) ≡ length old - at = length-drop at old in
-    let all : mid_of at (length old - at) old ≡ drop at old = take_all (length old - at) (drop at old) (omega (arith, long)) in
-    let none : post_of at (length old - at) old ≡ [] = drop_all (length old - at) (drop at old) (omega (arith, long)) in
-    let turned : part ≡ drop (at + by) old ++ take by (drop at old) = is ∙ ap (λ (b : List ℕ). drop by b ++ take by b) all ∙ ap (λ (b : List ℕ). b ++ take by (drop at old)) (drop-drop by at old) in
-    (λ i. take at old ++ (turned i ++ none i)) ∙ ap (λ (b : List ℕ). take at old ++ b) (append-nil (drop (at + by) old ++ take by (drop at old))) ∙ sym (append_assoc (take at old) (drop (at + by) old) (take by (drop at old)))
+-- what stands behind a gap moves to its place, from a copy, and zeros go over the end
+moved_back : (old copy part : List ℕ) (at by n : ℕ) → copy ≡ old → at + by ≤ length old → n ≡ length old - by → part ≡ mid_of (at + by) (length copy - (at + by)) copy
+    → put_mid at (n - at) old part ≡ (take at old ++ drop (at + by) old) ++ drop (n - at) (drop at old)
+moved_back old copy part at by n same le en is =
+    let moved : part ≡ drop (at + by) old = is ∙ take_all (length copy - (at + by)) (drop (at + by) copy) (omega (arith, length-drop (at + by) copy)) ∙ ap (drop (at + by)) same in
+    ap (λ (b : List ℕ). take at old ++ (b ++ drop (n - at) (drop at old))) moved ∙ sym (append_assoc (take at old) (drop (at + by) old) (drop (n - at) (drop at old)))
 
-pub cleared : (old part zeros whole : List ℕ) (at by : ℕ) → at + by ≤ length old → part ≡ drop by (mid_of at (length old - at) old) ++ take by (mid_of at (length old - at) old) → whole ≡ put_mid at (length old - at) old part
-    → zeros ≡ replicate (length (mid_of (length whole - by) (length whole - (length whole - by)) whole)) 0 → put_mid (length whole - by) (length whole - (length whole - by)) whole zeros ≡ take at old ++ (drop (at + by) old ++ replicate by 0)
-cleared old part zeros whole at by le is made z =
+cleared_end : (front last whole zeros : List ℕ) (n k by : ℕ) → whole ≡ front ++ last → length front ≡ n → length last ≡ k → k ≡ by → zeros ≡ replicate (length (mid_of n k whole)) 0
+    → put_mid n k whole zeros ≡ front ++ replicate by 0
+cleared_end front last whole zeros n k by is front_long last_long ek z =
+    let kept : take n whole ≡ front = ap (take n) is ∙ take_at front last n front_long in
+    let left : drop n whole ≡ last = ap (drop n) is ∙ drop_at front last n front_long in
+    let many : length (mid_of n k whole) ≡ by = length-take-le k (drop n whole) (omega (arith, ap (λ (b : List ℕ). length b) left, last_long)) ∙ ek in
+    let none : post_of n k whole ≡ [] = drop_all k (drop n whole) (omega (arith, ap (λ (b : List ℕ). length b) left, last_long)) in
+    (λ i. kept i ++ ((z ∙ ap (λ (m : ℕ). replicate m 0) many) i ++ none i)) ∙ ap (λ (b : List ℕ). front ++ b) (append-nil (replicate by 0))
+
+pub cleared : (old copy part zeros whole : List ℕ) (at by : ℕ) → copy ≡ old → at + by ≤ length old → part ≡ mid_of (at + by) (length copy - (at + by)) copy
+    → whole ≡ put_mid at (length old - by - at) old part
+    → zeros ≡ replicate (length (mid_of (length old - by) (length whole - (length old - by)) whole)) 0
+    → put_mid (length old - by) (length whole - (length old - by)) whole zeros ≡ take at old ++ (drop (at + by) old ++ replicate by 0)
+cleared old copy part zeros whole at by same le is made z =
+    let n = length old - by in
     let front = take at old ++ drop (at + by) old in
-    let last = take by (drop at old) in
-    let whole_is : whole ≡ front ++ last = made ∙ turned_left old part at by le is in
-    let front_long : length front ≡ length old - by = length-append (take at old) (drop (at + by) old) ∙ omega (arith, length-take-le at old (omega arith), length-drop (at + by) old) in
-    let last_long : length last ≡ by = length-take-le by (drop at old) (omega (arith, length-drop at old)) in
-    let long : length whole ≡ length old = ap (λ (b : List ℕ). length b) whole_is ∙ length-append front last ∙ omega (arith, front_long, last_long) in
-    let kept : take (length whole - by) whole ≡ front = ap (take (length whole - by)) whole_is ∙ take_at front last (length whole - by) (omega (arith, front_long, long)) in
-    let none : post_of (length whole - by) (length whole - (length whole - by)) whole ≡ [] = Post-is (length whole - by) (length whole) whole (omega arith) ∙ drop_all (length whole) whole (omega arith) in
-    let many : length (mid_of (length whole - by) (length whole - (length whole - by)) whole) ≡ by = mid_len (length whole - by) (length whole) whole (omega arith) ∙ omega (arith, long) in
-    (λ i. kept i ++ (z i ++ none i))
-    ∙ ap (λ (n : ℕ). front ++ (replicate n 0 ++ [])) many
-    ∙ ap (λ (b : List ℕ). front ++ b) (append-nil (replicate by 0))
+    let last = drop (n - at) (drop at old) in
+    let moved : whole ≡ front ++ last = made ∙ moved_back old copy part at by n same le refl is in
+    let front_long : length front ≡ n = length-append (take at old) (drop (at + by) old) ∙ omega (arith, length-take-le at old (omega arith), length-drop (at + by) old) in
+    let last_wide : length last ≡ by = length-drop (n - at) (drop at old) ∙ omega (arith, length-drop at old) in
+    let long : length whole ≡ length old = ap (λ (b : List ℕ). length b) moved ∙ length-append front last ∙ omega (arith, front_long, last_wide) in
+    cleared_end front last whole zeros n (length whole - n) by moved front_long (last_wide ∙ omega (arith, long)) (omega (arith, long)) z
     ∙ append_assoc (take at old) (drop (at + by) old) (replicate by 0)
 
 -- less room: zeros come behind
@@ -106,21 +125,6 @@ closed old new at was now by fits less is =
           ∙ ap (λ (b : List ℕ). b ++ replicate by 0) (sym (take_all (length old - (at + now)) (drop (at + was) old) behind_it))
           ∙ ap (λ (k : ℕ). take (length old - (at + now)) (drop (at + was) old) ++ replicate k 0) fewer;
     }
-
--- a text in that room
-pub filled : (old mid new text : List ℕ) (at was now : ℕ) → MakesRoom old at was now mid → length text ≡ now → new ≡ take at mid ++ (text ++ drop (at + now) mid) → new ≡ replaced at was text old
-filled old mid new text at was now room long is =
-    is ∙ ap (λ (b : List ℕ). b ++ (text ++ drop (at + now) mid)) room.front ∙ ap (λ (b : List ℕ). take at old ++ (text ++ b)) (room.behind ∙ ap (λ (n : ℕ). take (length old - (at + n)) (drop (at + was) old) ++ replicate (was - n) 0) (sym long))
-
--- none
-pub emptied : (old mid : List ℕ) (at was now : ℕ) → MakesRoom old at was now mid → now ≡ 0 → mid ≡ replaced at was [] old
-emptied old mid at was now room none =
-    filled old mid mid [] at was now room (sym none) (sym (take-append-drop at mid) ∙ ap (λ (n : ℕ). take at mid ++ drop n mid) (let e : at ≡ at + now = omega arith in e))
-
--- a text over a part of the bytes, as a write to the part leaves it
-pub filled_part : (old mid text : List ℕ) (at was now : ℕ) → MakesRoom old at was now mid → length text ≡ now → put_mid at (at + now - at) mid text ≡ replaced at was text old
-filled_part old mid text at was now room long =
-    filled old mid (put_mid at (at + now - at) mid text) text at was now room long (ap (λ (b : List ℕ). take at mid ++ (text ++ b)) (Post-is at (at + now) mid (omega arith)))
 
 -- how many bytes the record of a point has
 pub record_wide : (p body : List ℕ) → 8 * length p + 1 + length body ≡ length (flat_map record_bytes (record { key = p; body = body } ∷ []))

@@ -40,7 +40,7 @@ use Rattle.hb_view.proofs.PlacedAmong.{with_body_there}
 -- ---- the leaf at the point
 
 -- the page's box holds the point
-pub held_by_page : (page : LivePage) (p : List ℕ) → IsOrderedAt p page → Holds page.area p
+held_by_page : (page : LivePage) (p : List ℕ) → IsOrderedAt p page → Holds page.area p
 held_by_page page p ordered = first_held p page.frag page.area (record { leaf = Records ordered.rising.records; area = ordered.rising.area }) ordered.well_cut ordered.rising.leaf
 
 -- a leaf that is found there has the page's records
@@ -54,19 +54,19 @@ same_leaf page p leaf ordered found =
 -- ---- in front of the tree
 
 -- the text of a page in front of its tree
-abbrev pub page_head : LivePage → List ℕ
+abbrev page_head : LivePage → List ℕ
 page_head page = 1 ∷ page.level ∷ length page.area.lo ∷ 0 ∷ point_bytes page.area.lo ++ point_bytes page.area.hi
 
 length_head : (page : LivePage) → IsArea page.area → length (page_head page) ≡ 4 + 16 * length page.area.lo
 length_head page is_area = omega (arith, length-append (point_bytes page.area.lo) (point_bytes page.area.hi), length_point page.area.lo, length_point page.area.hi, is_area.same)
 
 -- the bytes of a page: that text, and from there on the tree and zeros
-pub record HeadStands (page : LivePage) (bytes from : List ℕ) : Type 0 where
-  pub zeros : ℕ
-  pub whole : bytes ≡ page_head page ++ from
-  pub from_are : from ≡ tree_bytes page.frag ++ replicate zeros 0
+record HeadStands (page : LivePage) (bytes from : List ℕ) : Type 0 where
+  zeros : ℕ
+  whole : bytes ≡ page_head page ++ from
+  from_are : from ≡ tree_bytes page.frag ++ replicate zeros 0
 
-pub head_stands : (page : LivePage) (bytes from : List ℕ) (k : ℕ) → SpellsPage bytes (Live page) → IsArea page.area → k ≡ length page.area.lo → from ≡ drop (4 + 16 * k) bytes → HeadStands page bytes from
+head_stands : (page : LivePage) (bytes from : List ℕ) (k : ℕ) → SpellsPage bytes (Live page) → IsArea page.area → k ≡ length page.area.lo → from ≡ drop (4 + 16 * k) bytes → HeadStands page bytes from
 head_stands page bytes from k spells is_area same begins =
     let zeros = replicate spells.spelled.0 0 in
     let parts : bytes ≡ page_head page ++ (tree_bytes page.frag ++ zeros) = spells.spelled.1 ∙ append_assoc (page_head page) (tree_bytes page.frag) zeros in
@@ -107,23 +107,23 @@ made_parts a b c d e f g = simp append_assoc
 -- ---- the spot
 
 -- the bytes spell a page that is ordered at the point, and its tree begins there
-pub record OrderedBytes (bytes p : List ℕ) (page : LivePage) (k : ℕ) (from : List ℕ) : Type 0 where
-  pub spells : SpellsPage bytes (Live page)
-  pub fits : AreBytes bytes
-  pub is_area : IsArea page.area
-  pub ordered : IsOrderedAt p page
-  pub attributes : k ≡ length page.area.lo
-  pub begins : from ≡ drop (4 + 16 * k) bytes
-  pub is_there : IsSome (tree_at k from)
-  pub tree : tree_there k from ≡ page.frag
+record OrderedBytes (bytes p : List ℕ) (page : LivePage) (k : ℕ) (from : List ℕ) : Type 0 where
+  spells : SpellsPage bytes (Live page)
+  fits : AreBytes bytes
+  is_area : IsArea page.area
+  ordered : IsOrderedAt p page
+  attributes : k ≡ length page.area.lo
+  begins : from ≡ drop (4 + 16 * k) bytes
+  is_there : IsSome (tree_at k from)
+  tree : tree_there k from ≡ page.frag
 
 -- the page in use that bytes spell
-pub record LiveOrdered (bytes p : List ℕ) (k : ℕ) (from : List ℕ) : Type 0 where
-  pub page : LivePage
-  pub is : page_spelled bytes ≡ Live page
-  pub at : OrderedBytes bytes p page k from
+record LiveOrdered (bytes p : List ℕ) (k : ℕ) (from : List ℕ) : Type 0 where
+  page : LivePage
+  is : page_spelled bytes ≡ Live page
+  at : OrderedBytes bytes p page k from
 
-pub live_ordered : (bytes p : List ℕ) (inside : Inside) → AreBytes bytes → IsLive (page_spelled bytes) → IsLiveAnd (page_spelled bytes) (IsOrderedAt p) → IsLiveAnd (page_spelled bytes) (λ page. HasInside page inside)
+live_ordered : (bytes p : List ℕ) (inside : Inside) → AreBytes bytes → IsLive (page_spelled bytes) → IsLiveAnd (page_spelled bytes) (IsOrderedAt p) → IsLiveAnd (page_spelled bytes) (λ page. HasInside page inside)
     → inside.tree.bytes.now ≡ drop (4 + 16 * inside.tree.k.number) bytes → LiveOrdered bytes p inside.tree.k.number inside.tree.bytes.now
 live_ordered bytes p inside fits live ordered parts begins =
     let s = live_spelled bytes fits live in
@@ -148,7 +148,7 @@ live_so (Live page) P h = tt
 live_so (Free next) P h = h
 
 module _ (bytes p : List ℕ) (page : LivePage) (k : ℕ) (from : List ℕ) (at : OrderedBytes bytes p page k from) where
-  pub as_many : length p ≡ k
+  as_many : length p ≡ k
   as_many = (held_by_page page p at.ordered).same ∙ sym at.attributes
 
   -- a leaf that the tree has at the point is the page's
@@ -158,7 +158,7 @@ module _ (bytes p : List ℕ) (page : LivePage) (k : ℕ) (from : List ℕ) (at 
       (there.0, ap (λ (t : Tree). first_at p (leaves_of t page.area)) (sym at.tree) ∙ there.1, there.2)
 
   -- it names no page
-  pub no_pointer : LeafWithin IsPointer (tree_there k from) p → ⊥
+  no_pointer : LeafWithin IsPointer (tree_there k from) p → ⊥
   no_pointer within =
       let there = within page.area at.is_area (subst (λ (t : Tree). IsWellCut t page.area) (sym at.tree) at.ordered.well_cut) (held_by_page page p at.ordered) in
       let found = ap (λ (t : Tree). first_at p (leaves_of t page.area)) (sym at.tree) ∙ there.1 in
@@ -167,7 +167,7 @@ module _ (bytes p : List ℕ) (page : LivePage) (k : ℕ) (from : List ℕ) (at 
   head : HeadStands page bytes from
   head = head_stands page bytes from k at.spells at.is_area at.attributes at.begins
 
-  pub from_fits : AreBytes from
+  from_fits : AreBytes from
   from_fits = subst (λ (b : List ℕ). AreBytes b) (sym at.begins) (AreBytes-drop (4 + 16 * k) bytes at.fits)
 
   zeros_behind : rest_there k from ≡ replicate head.zeros 0
@@ -183,7 +183,7 @@ module _ (bytes p : List ℕ) (page : LivePage) (k : ℕ) (from : List ℕ) (at 
     found : FoundAt page p (Records all)
     found = is_found (Records all) list.leaf
 
-    pub rising : AllPairs Precedes all
+    rising : AllPairs Precedes all
     rising = subst (λ (rs : List Record). AllPairs Precedes rs) (ap records_of (same_leaf page p (Records all) at.ordered found)) at.ordered.rising.keeps
 
     -- the page with its records changed
@@ -231,7 +231,7 @@ module _ (bytes p : List ℕ) (page : LivePage) (k : ℕ) (from : List ℕ) (at 
           (ap (λ (rs : List Record). flat_map record_bytes rs) is ∙ three place.before mid place.after)
           ∙ made_parts (page_head page) stood.front (big_endian 2 (count - held + length mid)) before (flat_map record_bytes mid) (flat_map record_bytes place.after) stood.tail
 
-      pub spotted : (count_at place_at was : ℕ) → count_at ≡ length bytes - length first - 2 → place_at ≡ length bytes - length there → was ≡ length there - length behind → IsSpot bytes p page count_at count place_at was held
+      spotted : (count_at place_at was : ℕ) → count_at ≡ length bytes - length first - 2 → place_at ≡ length bytes - length there → was ≡ length there - length behind → IsSpot bytes p page count_at count place_at was held
       spotted count_at place_at was ec ea ew =
           let whole : bytes ≡ (page_head page ++ stood.front) ++ (big_endian 2 count ++ first) =
           head.whole ∙ ap (λ (b : List ℕ). page_head page ++ b) stood.bytes_are ∙ sym (append_assoc (page_head page) stood.front (big_endian 2 count ++ first)) in

@@ -1,7 +1,7 @@
 //! A body put at a point of a page, or taken from it, in the page's bytes.
 //!
 //! Of all the bytes two stretches change: the count of the leaf's records, and from the point's record on. The bytes behind that
-//! record move as one, by a rotation, and so far as they are zeros they come and go at the page's end.
+//! record move as one, from a copy of the page, and so far as they are zeros they come and go at the page's end.
 ghost use Rattle.std.specs.Prelude.{◌≡◌, ℕ, List, ◌+◌, ◌-◌, ◌≤◌, ◌++◌, length, take, drop, replicate, option_copied, flat_map, Some};
 ghost use Rattle.hb_frag.specs.Grammar.{HasSpelling, record_bytes};
 ghost use Rattle.hb_frag.specs.declared.pages.Page.TheVariants.{Live};
@@ -56,34 +56,37 @@ fn spot_of(bytes: &[u8], point: &Point) -> Spot
     }
 }
 
-/// The bytes from a place on move on by so many, and the last ones come to the place.
-fn open_gap(bytes: &mut [u8], at: usize, by: usize)
-    requires { at + by ≤ length bytes.old }
-    ensures { bytes.new ≡ take at bytes.old ++ (drop (length bytes.old - at - by) (drop at bytes.old) ++ take (length bytes.old - at - by) (drop at bytes.old)) }
+/// The bytes from a place on move on by so many, from a copy of them all; the last ones go.
+fn open_gap(bytes: &mut [u8], copy: &[u8], at: usize, by: usize)
+    requires same { copy.now ≡ bytes.old }
+    requires room { at + by ≤ length bytes.old }
+    ensures { bytes.new ≡ take (at + by) bytes.old ++ take (length bytes.old - at - by) (drop at bytes.old) }
 {
-    bytes[at..].rotate_right(by);
+    bytes[at + by..].copy_from_slice(&copy[at..copy.len() - by]);
 }
 
-/// So many bytes go at a place, and zeros come at the end.
-fn close_gap(bytes: &mut [u8], at: usize, by: usize)
-    requires { at + by ≤ length bytes.old }
+/// So many bytes go at a place, by a copy of all, and zeros come at the end.
+fn close_gap(bytes: &mut [u8], copy: &[u8], at: usize, by: usize)
+    requires same { copy.now ≡ bytes.old }
+    requires room { at + by ≤ length bytes.old }
     ensures { bytes.new ≡ take at bytes.old ++ (drop (at + by) bytes.old ++ replicate by 0) }
 {
-    bytes[at..].rotate_left(by);
     let end = bytes.len() - by;
+    bytes[at..end].copy_from_slice(&copy[at + by..]);
     bytes[end..].fill(0);
 }
 
 /// Makes room for `now` bytes from a place on, where `was` stood.
-fn make_room(bytes: &mut [u8], at: usize, was: usize, now: usize)
+fn make_room(bytes: &mut [u8; PAGE], at: usize, was: usize, now: usize)
     requires was { at + was ≤ length bytes.old }
     requires now { at + now ≤ length bytes.old }
     ensures { MakesRoom bytes.old at was now bytes.new }
 {
+    let copy = *bytes;
     if was < now {
-        open_gap(bytes, at, now - was);
+        open_gap(bytes, &copy, at, now - was);
     } else {
-        close_gap(bytes, at, was - now);
+        close_gap(bytes, &copy, at, was - now);
     }
 }
 
@@ -91,10 +94,7 @@ fn make_room(bytes: &mut [u8], at: usize, was: usize, now: usize)
 fn count_with(body: Option<&Body>) -> u16
     ensures { (point : List ℕ) → result ≡ length (record_with point (option_copied body.entry)) }
 {
-    match body {
-        Some(_) => 1,
-        None => 0,
-    }
+    u16::from(body.is_some())
 }
 
 /// How many bytes they have.
@@ -116,7 +116,7 @@ fn fill_record(part: &mut [u8], point: &Point, body: &Body)
 }
 
 /// Puts the record of the point with this body, or no record, in the place of so many bytes.
-fn replace(bytes: &mut [u8], at: usize, was: usize, point: &Point, body: Option<&Body>)
+fn replace(bytes: &mut [u8; PAGE], at: usize, was: usize, point: &Point, body: Option<&Body>)
     requires was { at + was ≤ length bytes.old }
     requires now { at + length (flat_map record_bytes (record_with point.now (option_copied body))) ≤ length bytes.old }
     ensures { bytes.new ≡ replaced at was (flat_map record_bytes (record_with point.now (option_copied body.entry))) bytes.old }

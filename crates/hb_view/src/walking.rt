@@ -74,10 +74,8 @@ pub(crate) fn find_in<'a>(tree: &TreeView<'a>, p: &[u64]) -> Option<&'a [u8]>
         TellsBody p.now (first_at p.now (leaves_of (tree_seen tree.now) area)) (option_map (λ b. b.now) result) }
     ensures short { IfSome result (λ b. length b.now ≤ BMAX) }
 {
-    match list_in(tree, p) {
-        Some(list) => body_among(&list, p),
-        None => None,
-    }
+    let list = list_in(tree, p)?;
+    body_among(&list, p)
 }
 
 /// How many records the leaf has whose box holds the point; none where it names a page.

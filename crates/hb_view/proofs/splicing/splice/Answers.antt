@@ -35,7 +35,7 @@ give_u16-requires c =
     let spot = c.spot_of-spot.result in
     let long : length c.args.bytes.now ≡ PAGE = omega arith in
     let inside = stands_inside c.args.bytes.now c.args.point.now (page_spelled c.args.bytes.now) (option_copied c.args.body) spot.count_at spot.count spot.at spot.was spot.held long c.spot_of-spot.ensures c.requires.room in
-    omega (arith, inside.counter, c.replace.auto.bytes)
+    omega (arith, inside.counter)
 
 pub returns : goal.returns
 returns c =

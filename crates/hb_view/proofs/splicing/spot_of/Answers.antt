@@ -5,7 +5,7 @@ use Rattle.hb_view.specs.Seen.{list_seen}
 use Rattle.hb_view.specs.Spots.{IsPlaceAmong, LeadsToList}
 use Rattle.hb_view.specs.Splicing.{IsOrderedAt}
 use Rattle.hb_view.specs.Views.{LeafWithin}
-use Rattle.hb_view.proofs.Spotted.{first_inside, has_as_many, is_spot, list_rises, live_so, names_none}
+use Rattle.hb_view.proofs.Spotted.{first_inside, has_as_many, is_spot, list_fits, list_rises, live_so, names_none}
 use Rattle.hb_view.proofs.splicing.spot_of.Goals as goal
 
 pub inside_of-requires : goal.inside_of-requires
@@ -21,6 +21,13 @@ place_among-place-requires-clause-attributes c =
     ap (λ (p : List ℕ). length p) c.values-p.ensures.value
     ∙ has_as_many c.args.bytes.now c.args.point.now c.inside_of.result (λ i. omega (arith, c.type_inv.bytes i)) c.requires c.inside_of.ensures.parts c.inside_of.ensures.begins
     ∙ sym c.in-Some.ensures.same
+
+pub place_among-place-requires-clause-bytes : goal.place_among-place-requires-clause-bytes
+place_among-place-requires-clause-bytes c =
+    let tree = c.inside_of.result.tree in
+    let list = c.in-Some.list in
+    let leads = subst (λ (p : List ℕ). LeadsToList tree.k.number tree.bytes.now p list.count list.first.now) c.values-p.ensures.value c.in-Some.ensures.leads in
+    list_fits c.args.bytes.now c.args.point.now c.inside_of.result (λ i. omega (arith, c.type_inv.bytes i)) c.requires c.inside_of.ensures.parts c.inside_of.ensures.begins list c.in-Some.ensures.same leads
 
 pub place_among-place-requires-clause-rising : goal.place_among-place-requires-clause-rising
 place_among-place-requires-clause-rising c =
