@@ -5,6 +5,8 @@ ghost use Rattle.std.specs.List.{position, position_or_len};
 ghost use Rattle.std.specs.Option.{IsSomeAnd};
 ghost use Rattle.std.specs.Set.{remove_key};
 ghost use Rattle.hb_pool.specs.Frames.{has_id, may_go, pinned, unpinned, filled, clean};
+ghost use Rattle.std.specs.Fn.{FnOnceReturnsAtMut, FnOnceTakesAtMut};
+ghost use Rattle.hb_pool.specs.Editing.{Edits};
 ghost use Rattle.hb_pool.specs.Pools.{frame_of, places, put_last, in_place, brought, IsPool, HaveWholePages};
 
 use crate::slots::{Block, Slot};
@@ -117,6 +119,17 @@ impl Pool {
         self.held += one_if(!changed.must_stay());
         changed.fill(bytes);
         self.used.push_reserved(changed);
+    }
+
+    /// The page's bytes are changed where they stand. It is dirty now, and last in the order.
+    pub fn edit<F: FnOnce(&mut [u8; PAGE])>(&mut self, id: u32, edit: F)
+        requires { IsSomeAnd (frame_of self.old id) (λ f. FnOnceTakesAtMut F.FnOnce edit f.bytes) }
+        ensures { Edits id (λ old new. FnOnceReturnsAtMut F.FnOnce edit old tt new) self.old self.new }
+    {
+        let mut edited = take_out(&mut self.used, id);
+        self.held += one_if(!edited.must_stay());
+        edited.edit(edit);
+        self.used.push_reserved(edited);
     }
 
     /// The first dirty page in the order; `None` exactly where none is dirty.

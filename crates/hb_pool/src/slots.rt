@@ -1,6 +1,7 @@
 //! A page's frame: its number, its marks, and the block of memory that its bytes lie in.
 
-ghost use Rattle.std.specs.Prelude.{◌≡◌, ◌<◌};
+ghost use Rattle.std.specs.Prelude.{◌≡◌, ◌<◌, All};
+ghost use Rattle.hb_pool.specs.Editing.{AreWhole};
 
 use hb_space::form::PAGE;
 use std::marker::Model;
@@ -27,6 +28,8 @@ impl Model for Slot {
 }
 
 impl Slot {
+    ghost use Rattle.std.specs.Fn.{FnOnceReturnsAtMut, FnOnceTakesAtMut};
+    ghost use Rattle.hb_pool.specs.Editing.{Fills};
     ghost use Rattle.hb_pool.specs.Frames.{has_id, must_stay, pinned, unpinned, filled, clean, fresh};
 
     /// A page that nobody has pinned yet, in this block.
@@ -108,6 +111,16 @@ impl Slot {
         self.dirty = true;
     }
 
+    /// Other bytes, made of those that it has. They are nowhere else yet.
+    pub(crate) fn edit<F: FnOnce(&mut [u8; PAGE])>(&mut self, edit: F)
+        requires { FnOnceTakesAtMut F.FnOnce edit self.old.bytes }
+        ensures { Fills (λ old new. FnOnceReturnsAtMut F.FnOnce edit old tt new) self.old self.new }
+    {
+        edit(&mut self.block);
+        are_whole(&self.block);
+        self.dirty = true;
+    }
+
     /// No longer dirty.
     pub(crate) fn clean(&mut self)
         ensures { self.new ≡ clean self.old }
@@ -120,4 +133,18 @@ impl Slot {
         let Slot { block, .. } = self;
         block
     }
+}
+
+/// The bytes of a page are as many as it takes, and each is one.
+fn are_whole(bytes: &[u8; PAGE])
+    ensures { AreWhole bytes.now }
+{
+    are_bytes(bytes);
+}
+
+/// Each of these is a byte.
+fn are_bytes(bytes: &[u8])
+    ensures { All (λ b. b < 256) bytes.now }
+{
+    let _first = bytes.first();
 }
