@@ -12,6 +12,7 @@ mod Remembered
 mod Called
 mod Holding
 mod Committing
+mod Spliced
 mod Putting
 mod Checked
 mod InLog

@@ -2,10 +2,12 @@
 use Rattle.std.specs.Prelude.{◌≡◌, ◌≢◌, ◌⊎◌, ℕ, ◌<◌, true, false, IsTrue, List, [], ◌∷◌, map, All, Option, Some, None, IsSomeAnd}
 use Rattle.std.specs.Option.{option_map}
 use Rattle.hb_frag.specs.declared.pages.Page.{Page}
-use Rattle.hb_frag.specs.Grammar.{SpellsPage}
+use Rattle.hb_frag.specs.declared.pages.Page.TheVariants.{Live, Free}
+use Rattle.hb_frag.specs.Grammar.{HasSpelling, SpellsPage}
 use Rattle.hb_pool.specs.Frames.{Frame, Use, must_stay, use_of}
 use Rattle.hb_pool.specs.Pools.{IsPool, frame_of, places}
 use Rattle.hb_view.specs.Spelled.{page_spelled}
+use Rattle.hb_view.specs.Splicing.{IsOrderedAt, spliced}
 use Rattle.hb_store.specs.Calls.{StaysHere, use_changed}
 use Rattle.hb_ops.specs.SetPages.{has_page, set_pages}
 
@@ -20,6 +22,12 @@ MayGoOut old new = (new ≡ old) ⊎ ((new ≡ None) × IsSomeAnd old (λ (f : F
 -- a frame has this page, and is dirty
 abbrev pub HasNew : Option (Frame (List ℕ)) → Page → Type 0
 HasNew frame page = IsSomeAnd frame (λ (f : Frame (List ℕ)). SpellsPage f.bytes page × (f.dirty ≡ true))
+
+-- It is a page in use, in order at the point, and what it becomes with this body there, or none, can be written.
+abbrev pub HasSpliceable : Option Page → List ℕ → Option (List ℕ) → Type 0
+HasSpliceable (Some (Live page)) point body = IsOrderedAt point page × HasSpelling (Live (spliced point body page))
+HasSpliceable (Some (Free next)) point body = ⊥
+HasSpliceable None point body = ⊥
 
 -- A page was put under its number.
 pub record PutsInto (id : ℕ) (page : Page) (old new : List (Frame (List ℕ))) : Type 0 where

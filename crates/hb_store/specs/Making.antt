@@ -6,7 +6,7 @@ use Rattle.hb_frag.specs.declared.pages.Page.TheVariants.{Live}
 use Rattle.hb_frag.specs.Grammar.{HasSpelling}
 use Rattle.hb_layout.specs.declared.meta.Meta.{Meta}
 use Rattle.hb_ops.specs.declared.operations.Op.{Op}
-use Rattle.hb_ops.specs.declared.operations.Op.TheVariants.{Extract, Post}
+use Rattle.hb_ops.specs.declared.operations.Op.TheVariants.{Del, Extract, Post, Put}
 use Rattle.hb_ops.specs.Operations.{BoxesMatch, Change, IsAllowedOn, OpHas, change_of, reads_of}
 use Rattle.hb_log_codec.specs.Groups.{FitsGroup, FitsLeafCut, FitsOp, Logged}
 use Rattle.hb_store.specs.States.{AreGood, IsGoodPage, IsMemory, StoreState, in_memory, is_in_log}
@@ -79,6 +79,11 @@ pub record OperationLaws : Type 0 where
   pub changes : MakesGoodChanges
   pub fits : PartsFitOnGoodPages
   pub commits : CommitsBringNone
+
+-- the operation on records that puts this body at a point of a page, or takes it from there
+abbrev pub record_op : ℕ → List ℕ → Option (List ℕ) → Op
+record_op page point (Some body) = Put page (record { key = point; body = body })
+record_op page point None = Del page point
 
 -- an operation that a store can do: its points have as many attributes as the file says, it is allowed on the pages in memory, and
 -- their boxes match

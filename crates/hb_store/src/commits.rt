@@ -1,12 +1,12 @@
 //! Operations in memory, and the groups that wait for them.
-ghost use Rattle.std.specs.Prelude.{◌≡◌, ℕ, ◌<◌, ◌≤◌, ◌∷◌, ◌++◌, [], false, get_or, List, All, length, IfOk, OnOk, OnErr};
+ghost use Rattle.std.specs.Prelude.{◌≡◌, ℕ, ◌<◌, ◌≤◌, ◌∷◌, ◌++◌, [], false, get_or, List, All, length, IfOk, OnOk, OnErr, option_copied};
 ghost use Rattle.hb_space.specs.declared.form.TheConstants.{GROUP};
 ghost use Rattle.hb_ops.specs.Given.{given as live_given};
 ghost use Rattle.hb_ops.specs.Files.{FileState, if_live, last_of};
 ghost use Rattle.hb_ops.specs.Operations.{BoxesMatch, IsLicensed, OpHas, reads_of};
 ghost use Rattle.hb_log_codec.specs.Groups.{FitsGroup, group_bytes};
 ghost use Rattle.hb_store.specs.Keeps.{StoreKeeps};
-ghost use Rattle.hb_store.specs.Making.{IsDoableHere, MakesWell, group_here};
+ghost use Rattle.hb_store.specs.Making.{IsDoableHere, MakesWell, group_here, record_op};
 ghost use Rattle.hb_store.specs.Seen.{seen_as, uses_of};
 ghost use Rattle.hb_store.specs.Calls.{Commits, HasFrameFor, IsAllowedHere, IsReady, StaysHere, change_here, numbers_changed, read_here, use_changed, with_op};
 ghost use Rattle.hb_ops.specs.SetPages.{has_page};
@@ -16,13 +16,14 @@ ghost use Rattle.hb_wal.specs.Log.{IsMarkedTo};
 use crate::group_writing::group_for;
 use crate::making::what_is_made_can_be_written;
 use crate::memory::Memory;
-use crate::pages::{NUMBERS, add_all, put_all};
+use crate::pages::{NUMBERS, add_all, put_all, splice_page};
 use crate::store::Store;
 use hb_disk::Device;
 use hb_frag::{LivePage, Page};
 use hb_log_codec::laws::groups_are_short;
 use hb_ops::{ChangeError, Changed, Op, change};
-use hb_space::NoMemory;
+use hb_space::{Body, NoMemory, Point};
+use hb_view::laws::puts_and_deletes_are_splices;
 use std::alloc::{AllocError, Global};
 
 impl<D: Device> Store<D> {
@@ -55,6 +56,64 @@ impl<D: Device> Store<D> {
 impl Memory {
     /// Does an operation on the pages in memory, and lets its group wait. For want of memory nothing changes.
     pub(crate) fn commit(&mut self, alloc: Global, op: &Op, mark: u32) -> Result<(), NoMemory>
+        requires ready { IsReady self.old.state }
+        requires points { OpHas self.old.state.meta.k op.now }
+        requires allowed { IsAllowedHere self.old.state op.now }
+        requires boxes { BoxesMatch op.now (read_here self.old.state op.now 0) (read_here self.old.state op.now 1) (read_here self.old.state op.now 2) }
+        requires place { HasFrameFor op.now self.old.state self.old.uses }
+        requires marks { All (IsMarkedTo mark) self.old.state.log.groups }
+        ensures commits { OnOk result (Commits op.now mark self.old.state self.new.state) }
+        ensures group { OnOk result (self.new.state.log.groups ≡ self.old.state.log.groups ++ record { bytes = group_bytes (group_here self.old.state op.now); mark = mark } ∷ []) }
+        ensures uses { OnOk result (self.new.uses ≡ use_changed (numbers_changed self.old.state op.now) self.old.uses) }
+        ensures stays { OnOk result ((id : ℕ) → has_page id (change_here self.old.state op.now).pages ≡ false → StaysHere self.old.uses id → in_memory self.new.state id ≡ in_memory self.old.state id) }
+        ensures well { OnOk result (MakesWell op.now self.old.state) }
+        ensures kept { OnErr result (self.new ≡ self.old) }
+    {
+        match op {
+            Op::Put { page, rec } => {
+                self.commit_record(alloc, op, mark, *page, &rec.key, Some(&rec.body))
+            }
+            Op::Del { page, point } => self.commit_record(alloc, op, mark, *page, point, None),
+            _ => self.commit_pages(alloc, op, mark),
+        }
+    }
+
+    /// The same, of an operation on records: a body is put at a point of the page's bytes, or taken from it.
+    fn commit_record(
+        &mut self,
+        alloc: Global,
+        op: &Op,
+        mark: u32,
+        page: u32,
+        point: &Point,
+        body: Option<&Body>,
+    ) -> Result<(), NoMemory>
+        requires ready { IsReady self.old.state }
+        requires points { OpHas self.old.state.meta.k op.now }
+        requires allowed { IsAllowedHere self.old.state op.now }
+        requires boxes { BoxesMatch op.now (read_here self.old.state op.now 0) (read_here self.old.state op.now 1) (read_here self.old.state op.now 2) }
+        requires place { HasFrameFor op.now self.old.state self.old.uses }
+        requires marks { All (IsMarkedTo mark) self.old.state.log.groups }
+        requires record_op { op.now ≡ record_op page point.now (option_copied body) }
+        ensures commits { OnOk result (Commits op.now mark self.old.state self.new.state) }
+        ensures group { OnOk result (self.new.state.log.groups ≡ self.old.state.log.groups ++ record { bytes = group_bytes (group_here self.old.state op.now); mark = mark } ∷ []) }
+        ensures uses { OnOk result (self.new.uses ≡ use_changed (numbers_changed self.old.state op.now) self.old.uses) }
+        ensures stays { OnOk result ((id : ℕ) → has_page id (change_here self.old.state op.now).pages ≡ false → StaysHere self.old.uses id → in_memory self.new.state id ≡ in_memory self.old.state id) }
+        ensures well { OnOk result (MakesWell op.now self.old.state) }
+        ensures kept { OnErr result (self.new ≡ self.old) }
+    {
+        what_is_made_can_be_written();
+        puts_and_deletes_are_splices();
+        let group = self.group(alloc, op)?;
+        self.in_log.reserve(NUMBERS)?;
+        self.log.append(&group, mark);
+        add_all(&mut self.in_log, &op.reads());
+        splice_page(&mut self.pool, page, point, body);
+        Ok(())
+    }
+
+    /// The same, of an operation that makes other pages.
+    fn commit_pages(&mut self, alloc: Global, op: &Op, mark: u32) -> Result<(), NoMemory>
         requires ready { IsReady self.old.state }
         requires points { OpHas self.old.state.meta.k op.now }
         requires allowed { IsAllowedHere self.old.state op.now }

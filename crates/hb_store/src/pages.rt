@@ -1,10 +1,16 @@
 //! Changed pages put into their frames, and the numbers of those that the log has.
-ghost use Rattle.std.specs.Prelude.{◌≡◌, ℕ, ◌+◌, ◌<◌, ◌≤◌, ◌||◌, All, None, length, map, nat_eq};
+ghost use Rattle.std.specs.Prelude.{◌≡◌, ℕ, ◌+◌, ◌<◌, ◌≤◌, ◌||◌, All, None, Some, length, map, nat_eq, option_copied};
 ghost use Rattle.std.specs.HashSet.{contains, spare as spare_of};
 ghost use Rattle.hb_frag.specs.Grammar.{HasSpelling};
 ghost use Rattle.hb_pool.specs.Frames.{use_of};
 ghost use Rattle.hb_pool.specs.Pools.{IsPool, frame_of, places};
-ghost use Rattle.hb_store.specs.Filling.{HaveRoom, PutsInto, PutsAll};
+ghost use Rattle.hb_frag.specs.declared.pages.LivePage.{LivePage};
+ghost use Rattle.hb_frag.specs.declared.pages.Page.TheVariants.{Live};
+ghost use Rattle.hb_page_codec.specs.ReadingPages.{page_of_bytes};
+ghost use Rattle.hb_view.specs.Spelled.{page_spelled};
+ghost use Rattle.hb_view.specs.Splicing.{IsOrderedAt, spliced};
+ghost use Rattle.hb_view.specs.Views.{IsLiveAnd};
+ghost use Rattle.hb_store.specs.Filling.{HasSpliceable, HaveRoom, PutsInto, PutsAll, in_frame};
 ghost use Rattle.hb_store.specs.Replay.{is_among};
 ghost use Rattle.hb_ops.specs.SetPages.{has_page};
 
@@ -12,6 +18,8 @@ use hb_frag::Page;
 use hb_page_codec::encode;
 use hb_pool::Pool;
 use hb_space::form::PAGE;
+use hb_space::{Body, Point};
+use hb_view::splice;
 use std::collections::HashSet;
 
 /// How many numbers a commit adds at most: of three pages that it reads and three that it changes.
@@ -69,4 +77,52 @@ fn put(pool: &mut Pool, id: u32, page: &Page)
     } else {
         pool.bring(id, &bytes, true);
     }
+}
+
+/// A body is put at a point of a page in use, or taken from it, in the bytes of its frame. It is dirty then. It takes no memory.
+pub(crate) fn splice_page(pool: &mut Pool, id: u32, point: &Point, body: Option<&Body>)
+    requires pool { IsPool pool.old }
+    requires spliced { HasSpliceable (in_frame pool.old id) point.now (option_copied body) }
+    ensures { (page : LivePage) → in_frame pool.old id ≡ Some (Live page) → PutsInto id (Live (spliced point.now (option_copied body.entry) page)) pool.old pool.new }
+{
+    match body {
+        Some(body) => put_there(pool, id, point, body),
+        None => take_there(pool, id, point),
+    }
+}
+
+/// The same, of a body that is put. What a closure captures may be no `Option` of a reference: its contract is lost then.
+fn put_there(pool: &mut Pool, id: u32, point: &Point, body: &Body)
+    requires pool { IsPool pool.old }
+    requires spliced { HasSpliceable (in_frame pool.old id) point.now (Some body.now) }
+    ensures { (page : LivePage) → in_frame pool.old id ≡ Some (Live page) → PutsInto id (Live (spliced point.now (Some body.now) page)) pool.old pool.new }
+{
+    pool.edit(
+        id,
+        |bytes: &mut [u8; PAGE]|
+            requires ordered { IsLiveAnd (page_spelled bytes.old) (IsOrderedAt point.now) }
+            requires room { IsLiveAnd (page_spelled bytes.old) (λ page. HasSpelling (Live (spliced point.now (Some body.now) page))) }
+            ensures { IsLiveAnd (page_spelled bytes.old) (λ page. page_of_bytes bytes.new ≡ Some (Live (spliced point.entry.now (Some body.entry.now) page))) }
+        {
+            splice(bytes, point, Some(body));
+        },
+    );
+}
+
+/// The same, of a body that is taken from there.
+fn take_there(pool: &mut Pool, id: u32, point: &Point)
+    requires pool { IsPool pool.old }
+    requires spliced { HasSpliceable (in_frame pool.old id) point.now None }
+    ensures { (page : LivePage) → in_frame pool.old id ≡ Some (Live page) → PutsInto id (Live (spliced point.now None page)) pool.old pool.new }
+{
+    pool.edit(
+        id,
+        |bytes: &mut [u8; PAGE]|
+            requires ordered { IsLiveAnd (page_spelled bytes.old) (IsOrderedAt point.now) }
+            requires room { IsLiveAnd (page_spelled bytes.old) (λ page. HasSpelling (Live (spliced point.now None page))) }
+            ensures { IsLiveAnd (page_spelled bytes.old) (λ page. page_of_bytes bytes.new ≡ Some (Live (spliced point.entry.now None page))) }
+        {
+            splice(bytes, point, None);
+        },
+    );
 }

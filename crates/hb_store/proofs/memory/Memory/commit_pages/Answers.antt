@@ -19,7 +19,7 @@ use Rattle.hb_store.proofs.Committing.{commits_then, made_well, spelled_pages, s
 use Rattle.hb_store.proofs.Framed.{tied}
 use Rattle.hb_store.proofs.Remembered.{put_spelled, seen}
 use Rattle.hb_store.proofs.Room.{have_room}
-use Rattle.hb_store.proofs.memory.Memory.commit.Goals as goal
+use Rattle.hb_store.proofs.memory.Memory.commit_pages.Goals as goal
 
 -- the change, as the contracts see it
 abbrev change_made : (c : goal.After-array_drop-changed-2) → Change
