@@ -2,7 +2,7 @@ use Rattle.std.proofs.Common.{rules, ◌≡◌, ℕ, ◌-◌, Bool, false, List,
 use Rattle.hb_run.specs.CourseSeen.{course_seen}
 use Rattle.hb_run.specs.Ringing.{IsNews}
 use Rattle.hb_run.specs.Turning.{CountsMove, settled_of}
-use Rattle.hb_run.specs.Waiting.{GoesWell, may_flush}
+use Rattle.hb_run.specs.GoingOn.{GoesWell, may_flush}
 use Rattle.hb_run.proofs.Waking.{wakes_all}
 use Rattle.hb_run.proofs.courses.Course.take_turn.Goals as goal
 
