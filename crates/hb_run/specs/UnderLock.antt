@@ -3,7 +3,8 @@ use Rattle.std.specs.Prelude.{◌≡◌, ◌≢◌, ◌⊎◌, ◌≤◌, ℕ, �
 use Rattle.std.specs.List.{slice_get}
 use Rattle.hb_space.specs.declared.actors.TheConstants.{SESSIONS, FLUSHER}
 use Rattle.hb_outside.specs.Memory.{next_count}
-use Rattle.hb_run.specs.Waiting.{Signs, still_waits}
+use Rattle.hb_run.specs.Courses.{Course}
+use Rattle.hb_run.specs.Waiting.{Signs, signs_of, still_waits}
 use Rattle.hb_run.specs.declared.turns.Next.{Next}
 use Rattle.hb_run.specs.declared.turns.Next.TheVariants as nexts
 
@@ -11,6 +12,9 @@ use Rattle.hb_run.specs.declared.turns.Next.TheVariants as nexts
 pub record Board : Type 0 where
   pub signs : Signs
   pub nexts : List Next
+
+abbrev pub board_of : List ℕ → Bool → List Next → Course → Board
+board_of moves coming nexts c = record { signs = signs_of moves coming c; nexts = nexts }
 
 -- it is time for who flushes
 abbrev pub is_time : Signs → Bool

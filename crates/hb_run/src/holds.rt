@@ -90,7 +90,7 @@ impl<'h, N: Begun, D: Disk, K: Sink> Hold<'h, N, D, K> {
         let Hold { mut held } = self;
         let (next, news) = held.turn(&hand.seat);
         hand.next = next;
-        hand.turns = hand.turns.wrapping_add(1);
+        hand.turns = hand.turns.saturating_add(1);
         Turned { held, news }
     }
 }

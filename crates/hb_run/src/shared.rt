@@ -26,12 +26,11 @@ pub(crate) struct Shared<N: Begun, D: Disk, K: Sink> {
 impl<N: Begun, D: Disk, K: Sink> Model for Shared<N, D, K> {
     ghost use Rattle.hb_run.specs.CourseSeen.{course_seen};
     ghost use Rattle.hb_run.specs.Courses.{KeepsRun};
-    ghost use Rattle.hb_run.specs.UnderLock.{Board};
-    ghost use Rattle.hb_run.specs.Waiting.{signs_of};
+    ghost use Rattle.hb_run.specs.UnderLock.{Board, board_of};
 
     ghost Value = { Board };
 
-    ghost view = { λ s. record { signs = signs_of s.course.roster.moves s.course.roster.coming (course_seen D.model K.model s.course); nexts = s.course.roster.nexts } };
+    ghost view = { λ s. board_of s.course.roster.moves s.course.roster.coming s.course.roster.nexts (course_seen D.model K.model s.course) };
 
     ghost invariant = { λ s. KeepsRun N.beginning (course_seen D.model K.model s.course) };
 }
