@@ -25,9 +25,9 @@ pub record AllHaveEnded (sessions : List Hand) (all : Workers) : Type 0 where
 
 -- ---- of who is here, where no thread could be made for it
 
-abbrev pub actor_of : Option Hand → Option ℕ
-actor_of None = None
-actor_of (Some hand) = Some hand.seat.actor
+abbrev pub actor_here : Option Hand → Option ℕ
+actor_here None = None
+actor_here (Some hand) = Some hand.seat.actor
 
 abbrev pub is_over : Option Hand → Bool
 is_over None = true
@@ -39,9 +39,9 @@ takes_none_here s (Some hand) = takes_none s hand.next
 
 -- The same are here, for the same workers.
 pub record IsSameCrew (old new : Crew) : Type 0 where
-  pub posts : actor_of new.poster ≡ actor_of old.poster
-  pub merges : actor_of new.consolidator ≡ actor_of old.consolidator
-  pub flushes : actor_of new.flusher ≡ actor_of old.flusher
+  pub posts : actor_here new.poster ≡ actor_here old.poster
+  pub merges : actor_here new.consolidator ≡ actor_here old.consolidator
+  pub flushes : actor_here new.flusher ≡ actor_here old.flusher
 
 -- All of them have ended.
 pub record IsOverFor (crew : Crew) : Type 0 where

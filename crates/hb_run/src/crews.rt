@@ -2,7 +2,7 @@
 ghost use Rattle.std.specs.Prelude.{◌≡◌, ◌&&◌, if◌then◌else◌, is_some, true, IfSome, None, Some};
 ghost use Rattle.hb_space.specs.Actors.{IsActor};
 ghost use Rattle.hb_space.specs.declared.actors.TheConstants.{CONSOLIDATOR, FLUSHER, POSTER};
-ghost use Rattle.hb_run.specs.Ending.{HasEnded, actor_of, is_over};
+ghost use Rattle.hb_run.specs.Ending.{HasEnded, actor_here, is_over};
 
 use crate::holds::Hand;
 use crate::seats::Seat;
@@ -36,9 +36,9 @@ pub(crate) struct Crew {
 impl Crew {
     /// Who posts, who merges and who flushes, without those who have a thread.
     pub(crate) fn of(poster: &Thread, consolidator: &Thread, flusher: &Thread) -> Crew
-        ensures posts { actor_of result.poster ≡ (if is_some poster.now then None else Some POSTER) }
-        ensures merges { actor_of result.consolidator ≡ (if is_some consolidator.now then None else Some CONSOLIDATOR) }
-        ensures flushes { actor_of result.flusher ≡ (if is_some flusher.now then None else Some FLUSHER) }
+        ensures posts { actor_here result.poster ≡ (if is_some poster.now then None else Some POSTER) }
+        ensures merges { actor_here result.consolidator ≡ (if is_some consolidator.now then None else Some CONSOLIDATOR) }
+        ensures flushes { actor_here result.flusher ≡ (if is_some flusher.now then None else Some FLUSHER) }
     {
         Crew {
             poster: hand_without(poster, POSTER),
@@ -58,7 +58,7 @@ impl Crew {
 /// The worker, where it has no thread.
 fn hand_without(thread: &Thread, actor: Actor) -> Option<Hand>
     requires { IsActor actor }
-    ensures { actor_of result ≡ (if is_some thread.now then None else Some actor) }
+    ensures { actor_here result ≡ (if is_some thread.now then None else Some actor) }
 {
     match thread {
         Some(_) => None,
@@ -88,7 +88,7 @@ pub(crate) struct Workers {
 /// The worker, who has ended: in its thread, for whose end is waited, or here.
 pub(crate) fn ended<R: Threads>(rt: &R, thread: Thread, here: Option<Hand>, actor: Actor) -> Hand
     requires there { IfSome thread (λ handle. handle.promise.actor ≡ actor) }
-    requires here { actor_of here ≡ (if is_some thread then None else Some actor) }
+    requires here { actor_here here ≡ (if is_some thread then None else Some actor) }
     requires over { is_over here ≡ true }
     ensures { HasEnded actor result }
 {

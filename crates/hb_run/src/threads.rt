@@ -4,7 +4,7 @@ ghost use Rattle.hb_outside.specs.Memory.{next_count};
 ghost use Rattle.hb_space.specs.Actors.{IsActor};
 ghost use Rattle.hb_run.specs.CourseSeen.{course_seen};
 ghost use Rattle.hb_run.specs.Courses.{KeepsRun};
-ghost use Rattle.hb_run.specs.Ending.{AllHaveEnded, EachHasEnded, HasEnded, IsOverFor, IsSameCrew, actor_of, takes_none_here};
+ghost use Rattle.hb_run.specs.Ending.{AllHaveEnded, EachHasEnded, HasEnded, IsOverFor, IsSameCrew, actor_here, takes_none_here};
 ghost use Rattle.hb_run.specs.Running.{TurnsAreOver};
 ghost use Rattle.hb_run.specs.Waiting.{has_ended, takes_none};
 
@@ -109,7 +109,7 @@ impl<R: Wait, N: Begun, D: Disk, K: Sink, G: Gate> Hall<'_, R, N, D, K, G> {
 
     /// A turn of one of the crew, if it is here and hasn't ended.
     fn go_on(&self, here: &mut Option<Hand>)
-        ensures { actor_of here.new ≡ actor_of here.old }
+        ensures { actor_here here.new ≡ actor_here here.old }
     {
         if let Some(hand) = here {
             self.go_on_with(hand);
