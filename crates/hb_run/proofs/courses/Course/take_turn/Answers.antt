@@ -34,3 +34,6 @@ returns-then-not-may_flush-clause-turn g c =
         subst (λ (a : ℕ). GoesWell a (length seen.core.order) c.args.self.now.roster.free c.args.self.now.roster.moves seen None c.rest-next.result) (sym c.if-seat-eq-FLUSHER.true) (c.rest-next.ensures (length seen.core.order)),
       ),
     )
+
+pub returns-then-not-may_flush-clause-notes : goal.returns-then-not-may_flush-clause-notes
+returns-then-not-may_flush-clause-notes g c = inl (refl, c.if-seat-eq-FLUSHER.true)
