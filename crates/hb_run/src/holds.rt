@@ -12,12 +12,14 @@ use crate::bells::{Bells, Rung};
 use crate::seats::Seat;
 use crate::shared::Shared;
 use crate::turns::{News, Next};
+use hb_core::run_laws::runs_go_on;
 use hb_disk::Disk;
 use hb_outside::Sink;
 use hb_space::Actor;
 use std::sync::{Mutex, MutexGuard, Wait};
 
-/// One who takes turns: its seat, how many turns it took, and what it does next. Only a turn under the lock changes it.
+/// One who takes turns: its seat, how many turns it took, and what it does next. Only a turn under the lock changes it, and there is no
+/// other way to a turn.
 #[derive(Drop)]
 pub(crate) struct Hand {
     seat: Seat,
@@ -57,6 +59,18 @@ impl Hand {
         ensures { result ≡ has_ended self.now.next }
     {
         matches!(self.next, Next::Ends)
+    }
+}
+
+impl<N: Begun, D: Disk, K: Sink> Shared<N, D, K> {
+    /// A turn of the actor: one step of the core, or none where who flushes has nothing to do. What the actor does then, and what others
+    /// have to know.
+    fn turn(&mut self, seat: &Seat) -> (Next, News)
+        ensures one { TakesOneTurn seat.now.actor result.0 self.old self.new }
+        ensures wakes { WakesAll result.1 self.old.signs self.new.signs }
+    {
+        runs_go_on();
+        self.course.take_turn(seat)
     }
 }
 

@@ -1,14 +1,10 @@
 //! What the threads share.
 ghost use Rattle.std.specs.Prelude.{◌≡◌};
-ghost use Rattle.hb_run.specs.Ringing.{WakesAll};
-ghost use Rattle.hb_run.specs.UnderLock.{TakesOneTurn};
 ghost use Rattle.hb_run.specs.Waiting.{still_waits};
 
 use crate::begun::Begun;
 use crate::courses::Course;
-use crate::seats::Seat;
-use crate::turns::{News, Next, Pause};
-use hb_core::run_laws::runs_go_on;
+use crate::turns::Pause;
 use hb_disk::Disk;
 use hb_outside::Sink;
 use std::marker::{Model, PhantomData};
@@ -36,16 +32,6 @@ impl<N: Begun, D: Disk, K: Sink> Model for Shared<N, D, K> {
 }
 
 impl<N: Begun, D: Disk, K: Sink> Shared<N, D, K> {
-    /// A turn of the actor: one step of the core, or none where who flushes has nothing to do. What the actor does then, and what others
-    /// have to know.
-    pub(crate) fn turn(&mut self, seat: &Seat) -> (Next, News)
-        ensures one { TakesOneTurn seat.now.actor result.0 self.old self.new }
-        ensures wakes { WakesAll result.1 self.old.signs self.new.signs }
-    {
-        runs_go_on();
-        self.course.take_turn(seat)
-    }
-
     /// Whether what is waited for hasn't come.
     pub(crate) fn still_waits(&self, pause: &Pause) -> bool
         ensures { result ≡ still_waits pause.now self.now.signs }
