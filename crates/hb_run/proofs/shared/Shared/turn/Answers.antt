@@ -8,7 +8,7 @@ use Rattle.hb_run.specs.Ringing.{WakesAll}
 use Rattle.hb_run.specs.UnderLock.{Board, TakesOneTurn, board_of}
 use Rattle.hb_run.proofs.Going.{goes_on, may_turn}
 use Rattle.hb_run.proofs.Saying.{takes_one}
-use Rattle.hb_run.proofs.holds.Shared.turn.Goals as goal
+use Rattle.hb_run.proofs.shared.Shared.turn.Goals as goal
 
 pub take_turn-requires : goal.take_turn-requires
 take_turn-requires g c = may_turn _ (course_seen g.D.Device.model g.K.Sink.model c.self.inside.course) c.self.invariant
