@@ -1,5 +1,5 @@
 -- For whom a turn is news, and whose bells ring.
-use Rattle.std.specs.Prelude.{◌≡◌, ◌<◌, ◌≤◌, ℕ, ◌+◌, ◌==◌, nat_lt, if◌then◌else◌, Bool, true, false, not, List, ◌||◌, ◌&&◌, Option, Some, None, is_some}
+use Rattle.std.specs.Prelude.{◌≡◌, ◌<◌, ◌≤◌, ℕ, ◌==◌, nat_lt, if◌then◌else◌, Bool, true, false, not, List, ◌||◌, ◌&&◌, Option, Some, None, is_some}
 use Rattle.std.specs.List.{slice_get}
 use Rattle.hb_space.specs.declared.actors.TheConstants.{ACTORS}
 use Rattle.hb_activity.specs.declared.jobs.JobKind.TheVariants.{Post, Merge}
