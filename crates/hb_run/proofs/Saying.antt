@@ -1,5 +1,5 @@
 -- What a turn does to what the lock has.
-use Rattle.std.proofs.Common.{◌≡◌, ◌⊎◌, ◌≢◌, ◌≤◌, ℕ, ◌-◌, Bool, List, length, Option, Some, None, inl, inr, sym, ap, subst, arith}
+use Rattle.std.proofs.Common.{◌≡◌, ◌⊎◌, ◌≢◌, ◌≤◌, ℕ, ◌-◌, Bool, false, List, length, Option, Some, None, inl, inr, sym, ap, subst, arith}
 use Rattle.std.specs.List.{slice_get}
 use Rattle.hb_outside.specs.Memory.{next_count}
 use Rattle.hb_run.specs.Courses.{Course}
