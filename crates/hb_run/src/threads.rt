@@ -287,13 +287,7 @@ fn work_all<
     D: Disk + Send,
     K: Sink + Send,
     G: Gate + Sync,
->(
-    rt: &R,
-    lock: &Mutex<Shared<N, D, K>>,
-    bells: &Bells,
-    gate: &G,
-    sessions: Vec<Hand>,
-) -> Workers
+>(rt: &R, lock: &Mutex<Shared<N, D, K>>, bells: &Bells, gate: &G, sessions: Vec<Hand>) -> Workers
     ensures { AllHaveEnded sessions.items result }
 {
     thread::scope(

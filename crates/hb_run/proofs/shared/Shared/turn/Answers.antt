@@ -26,7 +26,7 @@ returns-clause-one g c =
     let seen : Course g.row.D.Denot g.row.K.Denot g.D.Device g.K.Sink → specs.Course = λ x. course_seen g.D.Device.model g.K.Sink.model x in
     let board : Course g.row.D.Denot g.row.K.Denot g.D.Device g.K.Sink → Board = λ x. board_of x.roster.moves x.roster.coming x.roster.nexts (seen x) in
     let takes = takes_one seen (λ x. x.roster.moves) (λ x. x.roster.coming) (λ x. x.roster.nexts) c.args.seat.now.actor c.self.inside.course.roster.free c.self.inside.course c.take_turn.new.self c.take_turn.result.0
-        c.take_turn.ensures.turn c.take_turn.ensures.notes in
+    c.take_turn.ensures.turn c.take_turn.ensures.notes in
     subst (λ (b : Board). TakesOneTurn c.args.seat.now.actor c.take_turn.result.0 b (board c.take_turn.new.self)) c.self.view_is takes
 
 pub returns-clause-wakes : goal.returns-clause-wakes
