@@ -3,6 +3,7 @@ pub mod Going
 pub mod Idle
 pub mod Looking
 pub mod Nexts
+pub mod Saying
 pub mod Sitting
 pub mod Waking
 pub mod WorkedOff

@@ -1,12 +1,13 @@
 -- What a worker does next fits its turn.
-use Rattle.std.proofs.Common.{◌≡◌, ◌≢◌, ℕ, ◌==◌, Bool, true, false, not, ◌&&◌, List, Some, is_some, inl, inr, refl, sym, ap, ◌∙◌, arith, ne_eqb}
+use Rattle.std.proofs.Common.{◌≡◌, ◌≢◌, ℕ, ◌==◌, Bool, true, false, not, ◌&&◌, List, Some, is_some, inr, refl, sym, ap, ◌∙◌, arith, ne_eqb}
 use Rattle.std.proofs.lemmas.Bool.{eq-eqb}
 use Rattle.hb_activity.specs.declared.jobs.JobKind.{JobKind}
 use Rattle.hb_activity.specs.declared.jobs.JobKind.TheVariants.{Post, Merge}
 use Rattle.hb_steps.specs.ProgressLaws.{worker_for}
 use Rattle.hb_run.specs.Courses.{Course}
 use Rattle.hb_run.specs.Turning.{is_done, jobs_left}
-use Rattle.hb_run.specs.Waiting.{GivesCause, MayGo, signs_of, still_waits}
+use Rattle.hb_run.specs.GoingOn.{GivesCause, MayGo}
+use Rattle.hb_run.specs.Waiting.{signs_of, still_waits}
 use Rattle.hb_run.specs.declared.turns.Pause.{Pause}
 use Rattle.hb_run.specs.declared.turns.Pause.TheVariants as pauses
 use Rattle.hb_run.specs.declared.turns.Turn.TheVariants as turns

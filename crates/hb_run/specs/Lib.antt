@@ -1,8 +1,11 @@
 pub mod Beginnings
 pub mod Courses
 pub mod CourseSeen
+pub mod Ending
+pub mod GoingOn
 pub mod Ringing
 pub mod Running
 pub mod Seats
 pub mod Turning
+pub mod UnderLock
 pub mod Waiting

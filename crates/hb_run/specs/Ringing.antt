@@ -1,5 +1,6 @@
 -- For whom a turn is news, and whose bells ring.
-use Rattle.std.specs.Prelude.{◌≡◌, ℕ, ◌+◌, ◌==◌, nat_lt, if◌then◌else◌, Bool, true, false, not, ◌||◌, ◌&&◌, Option, Some, None, is_some}
+use Rattle.std.specs.Prelude.{◌≡◌, ◌<◌, ◌≤◌, ℕ, ◌==◌, nat_lt, if◌then◌else◌, Bool, true, false, not, List, ◌||◌, ◌&&◌, Option, Some, None, is_some}
+use Rattle.std.specs.List.{slice_get}
 use Rattle.hb_space.specs.declared.actors.TheConstants.{ACTORS}
 use Rattle.hb_activity.specs.declared.jobs.JobKind.TheVariants.{Post, Merge}
 use Rattle.hb_run.specs.Courses.{Course}
@@ -8,7 +9,7 @@ use Rattle.hb_run.specs.Waiting.{Signs, still_waits}
 use Rattle.hb_run.specs.declared.turns.Pause.{Pause}
 use Rattle.hb_run.specs.declared.turns.Pause.TheVariants as pauses
 use Rattle.hb_run.specs.declared.turns.News.{News}
-use Rattle.hb_run.specs.declared.ringing.TheConstants.{POSTS, MERGES, FLUSHES, SETTLES}
+use Rattle.hb_run.specs.declared.ringing.TheConstants.{ANY, BELLS, POSTS, MERGES, FLUSHES, SETTLES}
 
 -- What a turn tells, before which so many places were settled in a round, and whose bells ring for it.
 pub record IsNews (place : ℕ) (moved : Bool) (settled round : ℕ) (coming : Bool) (c : Course) (news : News) : Type 0 where
@@ -38,3 +39,13 @@ bell_of (pauses.NoJob Post) = Some POSTS
 bell_of (pauses.NoJob Merge) = Some MERGES
 bell_of pauses.NotDue = Some FLUSHES
 bell_of (pauses.Unsettled place round) = Some SETTLES
+
+-- Of the bells below a place just those were rung that ring for the news: who waits by one is rung where the news is for it, and a thread
+-- that does several actors' turns is. None of the others was.
+pub record RingsBelow (last : ℕ) (news : News) (rung : List Bool) : Type 0 where
+  pub pauses : (pause : Pause) (place : ℕ) → bell_of pause ≡ Some place → place < last → slice_get rung place ≡ Some (rings news pause)
+  pub any : ANY < last → slice_get rung ANY ≡ Some true
+  pub others : (place : ℕ) → last ≤ place → place < BELLS → slice_get rung place ≡ Some false
+
+abbrev pub RingsFor : News → List Bool → Type 0
+RingsFor news rung = RingsBelow BELLS news rung

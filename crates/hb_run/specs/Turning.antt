@@ -1,7 +1,6 @@
 -- What a turn says, and what is left to do after it.
-use Rattle.std.specs.Prelude.{◌≡◌, ◌≢◌, ◌⊎◌, ◌≤◌, ℕ, ◌+◌, ◌-◌, ◌*◌, ◌/◌, ◌==◌, nat_lt, Bool, true, false, not, List, length, ◌&&◌, Option, Some, None, count_by}
+use Rattle.std.specs.Prelude.{◌≡◌, ◌≢◌, ℕ, ◌+◌, ◌-◌, ◌*◌, ◌/◌, ◌==◌, nat_lt, Bool, true, false, List, length, ◌&&◌, Option, Some, None, count_by}
 use Rattle.std.specs.List.{slice_get}
-use Rattle.hb_space.specs.declared.actors.TheConstants.{SESSIONS, FLUSHER}
 use Rattle.hb_activity.specs.Queue.{is_of}
 use Rattle.hb_activity.specs.declared.activities.Activity.{Activity}
 use Rattle.hb_activity.specs.declared.jobs.JobKind.{JobKind}
@@ -14,12 +13,6 @@ use Rattle.hb_steps.specs.ProgressLaws.{jobs_in_work, worker_for}
 use Rattle.hb_run.specs.Courses.{Course}
 use Rattle.hb_run.specs.declared.turns.Turn.{Turn}
 use Rattle.hb_run.specs.declared.turns.Turn.TheVariants as turns
-use Rattle.hb_run.specs.declared.turns.Pause.{Pause}
-use Rattle.hb_run.specs.declared.turns.Pause.TheVariants as pauses
-use Rattle.hb_run.specs.declared.turns.Next.{Next}
-use Rattle.hb_run.specs.declared.turns.Next.TheVariants as nexts
-use Rattle.hb_run.specs.declared.turns.News.{News}
-use Rattle.hb_run.specs.declared.rosters.Roster.{Roster}
 
 abbrev pub turn_of : Outcome → Turn
 turn_of (outcomes.Stopped why) = turns.Stopped

@@ -11,7 +11,8 @@ ghost use Rattle.hb_run.specs.Courses.{ShowsLeft, TakesTurn};
 ghost use Rattle.hb_run.specs.declared.turns.Turn.TheVariants as turns;
 ghost use Rattle.hb_run.specs.Ringing.{IsNews, WakesAll};
 ghost use Rattle.hb_run.specs.Turning.{CountsMove, is_done, is_due, is_more, jobs_left, round_of, settled_of, turn_of};
-ghost use Rattle.hb_run.specs.Waiting.{GoesWell, HasNoLineLeft, NotesNext, Rests, Steps, anyone_comes, comes, is_so, may_flush, signs_of, still_waits};
+ghost use Rattle.hb_run.specs.GoingOn.{GoesWell, HasNoLineLeft, Rests, Steps, may_flush};
+ghost use Rattle.hb_run.specs.Waiting.{NotesNext, anyone_comes, comes, is_so, signs_of, still_waits};
 
 use crate::rosters::Roster;
 use crate::seats::Seat;
@@ -61,7 +62,7 @@ impl<D: Disk, K: Sink> Course<D, K> {
         requires { MayTakeSteps (D.model (core_disk self.old.core)) (core_seen self.old.core) }
         ensures turn { ((self.new ≡ self.old) × Rests seat.now.actor self.old.roster.free self.old.roster.moves (course_seen D.model K.model self.old) result.0)
             ⊎ Steps seat.now.actor self.old.roster.free self.new.roster.moves (course_seen D.model K.model self.old) (course_seen D.model K.model self.new) result.0 }
-        ensures notes { (self.new ≡ self.old) ⊎ NotesNext (seat.now.actor - 1) result.0 self.old.roster.nexts self.new.roster.nexts }
+        ensures notes { ((self.new ≡ self.old) × (seat.now.actor ≡ FLUSHER)) ⊎ NotesNext (seat.now.actor - 1) result.0 self.old.roster.nexts self.new.roster.nexts }
         ensures coming { (self.new ≡ self.old) ⊎ (self.new.roster.coming ≡ anyone_comes self.new.roster.nexts self.new.roster.moves (course_seen D.model K.model self.new)) }
         ensures free { self.new.roster.free ≡ self.old.roster.free }
         ensures wakes { WakesAll result.1 (signs_of self.old.roster.moves self.old.roster.coming (course_seen D.model K.model self.old)) (signs_of self.new.roster.moves self.new.roster.coming (course_seen D.model K.model self.new)) }

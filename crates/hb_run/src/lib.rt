@@ -36,8 +36,9 @@ use hb_disk::Disk;
 use hb_outside::Sink;
 use hb_set::{Answered, Script};
 use hb_space::NoMemory;
+use holds::Hand;
 use rosters::Roster;
-use seats::{Seat, sessions_of};
+use seats::sessions_of;
 use std::alloc::Global;
 use std::marker::Brand;
 use std::sync::Wait;
@@ -60,7 +61,7 @@ pub fn run<R: Threads + Wait + Sync, D: Disk + Send, K: Sink + Send, G: Gate + S
     ensures { LeavesRun (λ m. RunsTo m result.answered.items (D.model (core_disk core)) (D.model (core_disk result.core)) (core_seen result.core) result.end (K.model sink) (K.model result.sink))
         D.model K.model core sink result }
 {
-    let Ok((answered, numbers, mut sessions, bells)) = room_for(alloc, core.script()) else {
+    let Ok((answered, numbers, sessions, bells)) = room_for(alloc, core.script()) else {
         return Ran {
             core,
             sink,
@@ -78,19 +79,19 @@ pub fn run<R: Threads + Wait + Sync, D: Disk + Send, K: Sink + Send, G: Gate + S
         left,
         roster: Roster::new(!gate.may_hold()),
     };
-    run_whole::<R, Brand, D, K, G>(rt, course, gate, &bells, sessions.as_mut_slice(), numbers)
+    run_whole::<R, Brand, D, K, G>(rt, course, gate, &bells, sessions, numbers)
 }
 
 /// What a run of these lines takes: room for an answer to each and for the number of each, the sessions, and the bells.
 fn room_for(
     alloc: Global,
     script: &Script,
-) -> Result<(Vec<Answered>, Vec<u32>, Vec<Seat>, Bells), NoMemory>
+) -> Result<(Vec<Answered>, Vec<u32>, Vec<Hand>, Bells), NoMemory>
     ensures answered { IfOk result (λ r. r.0.items ≡ []) }
     ensures answers { IfOk result (λ r. length script.now.lines ≤ vec_capacity r.0) }
     ensures none { IfOk result (λ r. r.1.items ≡ []) }
     ensures numbers { IfOk result (λ r. length script.now.lines ≤ vec_capacity r.1) }
-    ensures sessions { IfOk result (λ r. AreSessionsTo SESSIONS script.now.lines (map (λ s. s.actor) r.2.items)) }
+    ensures sessions { IfOk result (λ r. AreSessionsTo SESSIONS script.now.lines (map (λ h. h.seat.actor) r.2.items)) }
 {
     let lines = script.lines.as_slice();
     let answered = Vec::with_capacity(alloc, lines.len())?;

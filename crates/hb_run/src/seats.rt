@@ -4,6 +4,7 @@ ghost use Rattle.hb_space.specs.Actors.{IsActor};
 ghost use Rattle.hb_space.specs.declared.actors.TheConstants.{SESSIONS};
 ghost use Rattle.hb_run.specs.Seats.{AreSessionsTo, has_line};
 
+use crate::holds::Hand;
 use hb_set::Line;
 use hb_space::actors::SESSIONS;
 use hb_space::{Actor, NoMemory};
@@ -26,27 +27,27 @@ impl Seat {
     }
 }
 
-/// The sessions that have a line, each once.
+/// The sessions that have a line, each once. None has taken a turn.
 #[tactic(auto, using(crate::proofs::Sitting::sits, crate::proofs::Sitting::none_yet))]
-pub(crate) fn sessions_of(alloc: Global, lines: &[Line]) -> Result<Vec<Seat>, NoMemory>
-    ensures { IfOk result (λ seats. AreSessionsTo SESSIONS lines.now (map (λ s. s.actor) seats.items)) }
+pub(crate) fn sessions_of(alloc: Global, lines: &[Line]) -> Result<Vec<Hand>, NoMemory>
+    ensures { IfOk result (λ hands. AreSessionsTo SESSIONS lines.now (map (λ h. h.seat.actor) hands.items)) }
 {
-    let mut seats = Vec::new(alloc);
+    let mut hands = Vec::new(alloc);
     for before in 0..SESSIONS {
-        sit_down(&mut seats, before + 1, lines)?;
+        sit_down(&mut hands, before + 1, lines)?;
     }
-    Ok(seats)
+    Ok(hands)
 }
 
 /// Gives the session a seat behind the others, where it has a line.
-fn sit_down(seats: &mut Vec<Seat>, session: Actor, lines: &[Line]) -> Result<(), NoMemory>
+fn sit_down(hands: &mut Vec<Hand>, session: Actor, lines: &[Line]) -> Result<(), NoMemory>
     requires { IsActor session }
-    ensures { OnOk result (map (λ s. s.actor) seats.new.items ≡ (if has_line lines.now session then map (λ s. s.actor) seats.old.items ++ session ∷ [] else map (λ s. s.actor) seats.old.items)) }
+    ensures { OnOk result (map (λ h. h.seat.actor) hands.new.items ≡ (if has_line lines.now session then map (λ h. h.seat.actor) hands.old.items ++ session ∷ [] else map (λ h. h.seat.actor) hands.old.items)) }
 {
     if !has_line(lines, session) {
         return Ok(());
     }
-    seats.push(Seat::of(session))?;
+    hands.push(Hand::of(Seat::of(session)))?;
     Ok(())
 }
 

@@ -12,7 +12,7 @@ use crate::begun::Begun;
 use crate::bells::Bells;
 use crate::courses::Course;
 use crate::gates::Gate;
-use crate::seats::Seat;
+use crate::holds::Hand;
 use crate::shared::Shared;
 use crate::threads::{take_turns, work_off};
 use hb_core::Ran;
@@ -36,7 +36,7 @@ pub(crate) fn run_whole<
     course: Course<D, K>,
     gate: &G,
     bells: &Bells,
-    sessions: &mut [Seat],
+    sessions: Vec<Hand>,
     numbers: Vec<u32>,
 ) -> Ran<D, K>
     requires keeps { KeepsRun N.beginning (course_seen D.model K.model course) }
@@ -51,7 +51,8 @@ pub(crate) fn run_whole<
         course,
         name: PhantomData,
     };
-    let over = work_off(rt, take_turns(rt, shared, gate, bells, sessions));
+    let (shared, all) = take_turns(rt, shared, gate, bells, sessions);
+    let over = work_off(rt, shared, all);
     let Course {
         core,
         sink,

@@ -9,7 +9,8 @@ use Rattle.hb_store.specs.Opening.{IsEven, OpensTo, OpensToOne}
 use Rattle.hbpi.proofs.Opened.{even_store}
 use Rattle.hbpi.proofs.Promises.{not_done}
 use Rattle.hbpi.proofs.SaidWhole.{said_whole, shut_for_memory}
-use Rattle.hbpi.specs.Checked.{CheckEnds, IsCheckedWhole, KeepsChecked, sound_text}
+use Rattle.hbpi.specs.Checked.{CheckEnds, KeepsChecked, sound_text}
+use Rattle.hbpi.specs.Driven.{IsSaidWhole}
 use Rattle.hbpi.specs.SeenRuns.{Run}
 use Rattle.hbpi.specs.declared.statuses.Status.{Status}
 use Rattle.hbpi.specs.declared.statuses.Status.TheVariants.{Done}
@@ -30,7 +31,7 @@ check_keeps one s run b told opens ends = elim ends [
       }
 ]
 
-pub check_whole : GoodIsNotRefused → (s : FileState) (run : Run) (status : Status) → CheckEnds run status → IsCheckedWhole s run status
+pub check_whole : GoodIsNotRefused → (s : FileState) (run : Run) (status : Status) → CheckEnds run status → IsSaidWhole s run status
 check_whole good s run status ends b told opens sound calm sink = elim ends [
   | inl shut ↦ inr (shut_for_memory good s run status b told opens sound calm shut.0 shut.1 shut.2)
   | inr done ↦ inl (said_whole run.seen.sink_before run.seen.sink_after status (sound_text done.0.meta done.1) sink done.3)

@@ -10,7 +10,8 @@ use Rattle.hb_store.specs.Opening.{IsEven, OpensTo, OpensToOne}
 use Rattle.hbpi.proofs.Opened.{even_store}
 use Rattle.hbpi.proofs.Promises.{not_done}
 use Rattle.hbpi.proofs.SaidWhole.{shut_for_memory}
-use Rattle.hbpi.specs.Mapped.{IsMappedWhole, KeepsMapped, MapEnds, MapsWith}
+use Rattle.hbpi.specs.Driven.{IsSaidWhole}
+use Rattle.hbpi.specs.Mapped.{KeepsMapped, MapEnds, MapsWith}
 use Rattle.hbpi.specs.SeenRuns.{HasFailed, Run}
 use Rattle.hbpi.specs.declared.statuses.Status.{Status}
 use Rattle.hbpi.specs.declared.statuses.Damage.TheVariants as damages
@@ -50,7 +51,7 @@ maps_whole run meta text (Small needed found) b told calm sink ends = absurd end
 maps_whole run meta text Full b told calm sink ends = absurd ends
 maps_whole run meta text Spent b told calm sink ends = absurd ends
 
-pub map_whole : GoodIsNotRefused → (s : FileState) (run : Run) (status : Status) → MapEnds run status → IsMappedWhole s run status
+pub map_whole : GoodIsNotRefused → (s : FileState) (run : Run) (status : Status) → MapEnds run status → IsSaidWhole s run status
 map_whole good s run status ends b told opens sound calm sink = elim ends [
   | inl shut ↦ inr (shut_for_memory good s run status b told opens sound calm shut.0 shut.1 shut.2)
   | inr mapped ↦ maps_whole run mapped.0.meta mapped.1 status b told calm sink mapped.4

@@ -1,19 +1,17 @@
 -- What a run of `check` leaves, by its status.
-use Rattle.std.specs.Prelude.{◌≡◌, ◌⊎◌, ℕ, List, ◌++◌, codes, length, Some}
+use Rattle.std.specs.Prelude.{◌≡◌, ◌⊎◌, ℕ, List, ◌++◌, codes, length}
 use Rattle.std.specs.Fmt.{decimal}
 use Rattle.hb_layout.specs.declared.meta.Meta.{Meta}
 use Rattle.hb_ops.specs.Files.{FileState, file_records}
-use Rattle.hb_ops.specs.Sound.{IsSound}
-use Rattle.hb_outside.specs.Streams.{Appends, Rose}
+use Rattle.hb_outside.specs.Streams.{Appends}
 use Rattle.hb_restart.specs.declared.faults.OpenFault.{OpenFault}
-use Rattle.hb_store.specs.Opening.{IsEven, OpensTo}
+use Rattle.hb_store.specs.Opening.{IsEven}
 use Rattle.hb_store.specs.States.{StoreState}
 use Rattle.hbpi.specs.Codes.{status_of}
 use Rattle.hbpi.specs.Driven.{IsShutOut, OnlyOpens}
 use Rattle.hbpi.specs.Saying.{IsSaid}
-use Rattle.hbpi.specs.SeenRuns.{HasFailed, Run}
+use Rattle.hbpi.specs.SeenRuns.{Run}
 use Rattle.hbpi.specs.declared.statuses.Status.{Status}
-use Rattle.hbpi.specs.declared.statuses.Status.TheVariants.{Done, NoMemory}
 
 -- the line of a sound file: its height, its pages in use, and its records
 abbrev pub sound_text : Meta → ℕ → List ℕ
@@ -30,7 +28,3 @@ CheckEnds run status =
 pub record KeepsChecked (s : FileState) (run : Run) : Type 0 where
   pub line : Appends run.seen.sink_before.written run.seen.sink_after.written (sound_text s.meta (length (file_records s)))
   pub even : IsEven run.after s
-
--- Where no call failed over such a disk, the line was put, unless memory was refused.
-abbrev pub IsCheckedWhole : FileState → Run → Status → Type 0
-IsCheckedWhole s run status = (b : List ℕ) → run.before.told ≡ Some b → OpensTo b s → IsSound s → ¬ (HasFailed run) → ¬ (Rose run.seen.sink_before.faults run.seen.sink_after.faults) → (status ≡ Done) ⊎ (status ≡ NoMemory)

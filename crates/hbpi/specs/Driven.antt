@@ -1,5 +1,5 @@
 -- How a run of `drive`, `run` or `work` takes its steps, or comes to none.
-use Rattle.std.specs.Prelude.{◌≡◌, ℕ, Bool, true, false, List, [], None, IsSome}
+use Rattle.std.specs.Prelude.{◌≡◌, ◌⊎◌, ℕ, Bool, true, false, List, [], None, Some, IsSome}
 use Rattle.hb_activity.specs.declared.jobs.JobKind.TheVariants.{Post, Merge}
 use Rattle.hb_steps.specs.Machines.{Machine}
 use Rattle.hb_core.specs.Runs.{ChangesFile, left_count}
@@ -7,18 +7,23 @@ use Rattle.hb_steps.specs.ProgressLaws.{jobs_of}
 use Rattle.hb_disk.specs.Calls.{Becomes, OnlyReads}
 use Rattle.hb_disk.specs.Model.{DiskModel}
 use Rattle.hb_drive.specs.Driving.{run_text}
+use Rattle.hb_ops.specs.Files.{FileState}
+use Rattle.hb_ops.specs.Sound.{IsSound}
+use Rattle.hb_outside.specs.Streams.{Rose}
 use Rattle.hb_restart.specs.declared.faults.OpenFault.{OpenFault}
 use Rattle.hb_restart.specs.declared.faults.OpenFault.TheVariants as faults
 use Rattle.hb_restart.specs.Leaving.{LeavesOpening, OpensStore, RunsThrough}
 use Rattle.hb_restart.specs.Refusals.{IsRefusal, IsUnwritten}
+use Rattle.hb_store.specs.Opening.{OpensTo}
 use Rattle.hb_store.specs.States.{StoreState}
 use Rattle.hbpi.specs.Codes.{status_of}
 use Rattle.hbpi.specs.Counted.{HasRecords, counts_text}
 use Rattle.hbpi.specs.Schedules.{CameNot}
-use Rattle.hbpi.specs.SeenRuns.{IsAlone, IsRefused, IsUnread, Run}
+use Rattle.hbpi.specs.SeenRuns.{HasFailed, IsAlone, IsRefused, IsUnread, Run}
 use Rattle.hbpi.specs.declared.origins.Origin.{Origin}
 use Rattle.hbpi.specs.declared.origins.Origin.TheVariants.{Text, Drawn}
 use Rattle.hbpi.specs.declared.statuses.Status.{Status}
+use Rattle.hbpi.specs.declared.statuses.Status.TheVariants.{Done, NoMemory}
 
 -- The file wasn't opened, and the source wasn't read.
 pub record IsShutOut (run : Run) (fault : OpenFault) : Type 0 where
@@ -34,6 +39,10 @@ pub record OnlyOpens (failed : Type 0) (run : Run) (store : StoreState) (records
   pub through : RunsThrough store.meta.high run.before run.after
   pub leaves : LeavesOpening failed run.before run.after
   pub alone : IsAlone run.seen
+
+-- Where no call failed over a disk that tells and opens to this sound file, what is to be said was put whole, unless memory was refused.
+abbrev pub IsSaidWhole : FileState → Run → Status → Type 0
+IsSaidWhole s run status = (b : List ℕ) → run.before.told ≡ Some b → OpensTo b s → IsSound s → ¬ (HasFailed run) → ¬ (Rose run.seen.sink_before.faults run.seen.sink_after.faults) → (status ≡ Done) ⊎ (status ≡ NoMemory)
 
 -- A file of so many attributes was opened, and nothing else was done to the disk.
 pub record IsOpened (k : ℕ) (old new : DiskModel) : Type 0 where

@@ -1,11 +1,10 @@
 -- What a run of `map` leaves, by its status.
-use Rattle.std.specs.Prelude.{◌≡◌, ◌⊎◌, ℕ, ◌≤◌, List, ◌++◌, Option, None, Some, IfSome, Result, Ok, Err}
+use Rattle.std.specs.Prelude.{◌≡◌, ◌⊎◌, ℕ, ◌≤◌, List, ◌++◌, Option, None, IfSome, Result, Ok, Err}
 use Rattle.hb_layout.specs.declared.meta.Meta.{Meta}
 use Rattle.hb_map.specs.Map.{head_text, map_text}
 use Rattle.hb_map.specs.declared.stops.MapStop.{MapStop}
 use Rattle.hb_map.specs.declared.stops.MapStop.TheVariants as stops
 use Rattle.hb_ops.specs.Files.{FileState}
-use Rattle.hb_ops.specs.Sound.{IsSound}
 use Rattle.hb_outside.specs.Streams.{Appends, AppendsFront, IsFront, Rose}
 use Rattle.hb_restart.specs.declared.faults.OpenFault.{OpenFault}
 use Rattle.hb_store.specs.Opening.{IsEven, OpensTo}
@@ -13,7 +12,7 @@ use Rattle.hb_store.specs.States.{StoreState}
 use Rattle.hbpi.specs.Codes.{damage_of, status_of}
 use Rattle.hbpi.specs.Driven.{IsShutOut, OnlyOpens}
 use Rattle.hbpi.specs.StepEnds.{GetsOutput}
-use Rattle.hbpi.specs.SeenRuns.{HasFailed, Run}
+use Rattle.hbpi.specs.SeenRuns.{Run}
 use Rattle.hbpi.specs.declared.statuses.Damage.TheVariants as damages
 use Rattle.hbpi.specs.declared.statuses.Status.{Status}
 use Rattle.hbpi.specs.declared.statuses.Status.TheVariants.{Done, Usage, BadText, SourceFault, SinkFault, DiskFault, Damaged, NoMemory, BadLayout, Small, Full, Spent}
@@ -61,7 +60,3 @@ MapEnds run status =
 pub record KeepsMapped (s : FileState) (run : Run) : Type 0 where
   pub text : Appends run.seen.sink_before.written run.seen.sink_after.written (map_text s)
   pub even : IsEven run.after s
-
--- Where no call failed over such a disk, the map was put whole, unless memory was refused.
-abbrev pub IsMappedWhole : FileState → Run → Status → Type 0
-IsMappedWhole s run status = (b : List ℕ) → run.before.told ≡ Some b → OpensTo b s → IsSound s → ¬ (HasFailed run) → ¬ (Rose run.seen.sink_before.faults run.seen.sink_after.faults) → (status ≡ Done) ⊎ (status ≡ NoMemory)

@@ -4,9 +4,10 @@ use Rattle.hb_disk.specs.Calls.{Leaves}
 use Rattle.hb_ops.specs.Files.{FileState}
 use Rattle.hb_ops.specs.Sound.{IsSound}
 use Rattle.hb_store.specs.Opening.{IsEven, OpensTo}
-use Rattle.hbpi.specs.Checked.{IsCheckedWhole, KeepsChecked}
+use Rattle.hbpi.specs.Checked.{KeepsChecked}
+use Rattle.hbpi.specs.Driven.{IsSaidWhole}
 use Rattle.hbpi.specs.Drives.{LeavesLate}
-use Rattle.hbpi.specs.Mapped.{IsMappedWhole, KeepsMapped}
+use Rattle.hbpi.specs.Mapped.{KeepsMapped}
 use Rattle.hbpi.specs.Promises.{AnswersAll, IsDriven, KeepsCounts, KeepsPromise, NamesScheduleLine, RefusesFile}
 use Rattle.hbpi.specs.SeenRuns.{Run}
 use Rattle.hbpi.specs.Tidied.{HasContents, IsTidiedWhole, KeepsTidied}
@@ -43,12 +44,12 @@ pub record KeepsWork (state count : ℕ) (run : Run) (status : Status) : Type 0 
 -- Of `check`, `map` and `tidy`: what is so where it is done, and when it is; and that a bad file is refused.
 pub record KeepsCheck (run : Run) (status : Status) : Type 0 where
   pub done : OverSoundFile run (λ s. status ≡ Done → KeepsChecked s run)
-  pub whole : (s : FileState) → IsCheckedWhole s run status
+  pub whole : (s : FileState) → IsSaidWhole s run status
   pub refused : RefusesFile run status
 
 pub record KeepsMap (run : Run) (status : Status) : Type 0 where
   pub done : OverSoundFile run (λ s. status ≡ Done → KeepsMapped s run)
-  pub whole : (s : FileState) → IsMappedWhole s run status
+  pub whole : (s : FileState) → IsSaidWhole s run status
   pub refused : RefusesFile run status
 
 -- Of `tidy` also what crashes leave, whether it is done or not: a sound file with the same records.

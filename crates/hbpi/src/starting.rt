@@ -108,9 +108,7 @@ fn draw_script(alloc: Global, k: Attributes, state: u64, count: u32) -> Result<S
     ensures refused { IfErr result (λ status. status ≡ Status.NoMemory) }
 {
     a_generated_text_says_its_lines();
-    let Ok(text) = generate(alloc, state, count, k) else {
-        return Err(Status::NoMemory);
-    };
+    let text = generate(alloc, state, count, k)?;
     match read_commands(alloc, text.as_slice(), k, false) {
         Ok(script) => Ok(script),
         Err(TextError::Bad(_)) => unreachable!(),

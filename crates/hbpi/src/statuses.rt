@@ -2,6 +2,7 @@ ghost use Rattle.std.specs.Prelude.{◌≡◌, ◌≢◌};
 ghost use Rattle.hbpi.specs.Codes.{code_of, damage_of, made_status, status_of};
 
 use hb_restart::{CreateFault, Field, OpenFault};
+use hb_space::NoMemory;
 use hb_store::Why;
 use hb_text::BadLine;
 use hb_tidy::TidyStop;
@@ -93,6 +94,18 @@ impl Status {
             Status::Done => Status::SinkFault,
             other => other,
         }
+    }
+}
+
+impl From<NoMemory> for Status {
+    ghost use Rattle.std.specs.Prelude.{◌≡◌};
+    ghost use Rattle.hbpi.specs.declared.statuses.Status.TheVariants.{NoMemory as Refused};
+
+    ghost from_gives = { λ _ status. status ≡ Refused };
+
+    /// The status of a run to which memory was refused.
+    fn from(_refused: NoMemory) -> Status {
+        Status::NoMemory
     }
 }
 

@@ -2,7 +2,7 @@ use Rattle.std.proofs.Common.{rules, ◌≡◌, ℕ, ◌-◌, Bool, false, List,
 use Rattle.hb_run.specs.CourseSeen.{course_seen}
 use Rattle.hb_run.specs.Ringing.{IsNews}
 use Rattle.hb_run.specs.Turning.{CountsMove, settled_of}
-use Rattle.hb_run.specs.Waiting.{GoesWell, may_flush}
+use Rattle.hb_run.specs.GoingOn.{GoesWell, may_flush}
 use Rattle.hb_run.proofs.Waking.{wakes_all}
 use Rattle.hb_run.proofs.courses.Course.take_turn.Goals as goal
 
@@ -34,3 +34,6 @@ returns-then-not-may_flush-clause-turn g c =
         subst (λ (a : ℕ). GoesWell a (length seen.core.order) c.args.self.now.roster.free c.args.self.now.roster.moves seen None c.rest-next.result) (sym c.if-seat-eq-FLUSHER.true) (c.rest-next.ensures (length seen.core.order)),
       ),
     )
+
+pub returns-then-not-may_flush-clause-notes : goal.returns-then-not-may_flush-clause-notes
+returns-then-not-may_flush-clause-notes g c = inl (refl, c.if-seat-eq-FLUSHER.true)

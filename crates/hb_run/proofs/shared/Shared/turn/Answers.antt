@@ -1,10 +1,13 @@
-use Rattle.std.proofs.Common.{inl, inr, ap, subst, sym, ⊎_elim}
+use Rattle.std.proofs.Common.{subst, sym, ⊎_elim}
 use Rattle.hb_core.specs.CoreSeen.{core_disk}
 use Rattle.hb_run.specs.CourseSeen.{course_seen}
 use Rattle.hb_run.specs.Courses.{KeepsRun}
 use Rattle.hb_run.specs.declared.courses.Course.{Course}
-use Rattle.hb_run.specs.Waiting.{IsOneTurn, Signs, signs_of}
+use Rattle.hb_run.specs.Courses as specs
+use Rattle.hb_run.specs.Ringing.{WakesAll}
+use Rattle.hb_run.specs.UnderLock.{Board, TakesOneTurn, board_of}
 use Rattle.hb_run.proofs.Going.{goes_on, may_turn}
+use Rattle.hb_run.proofs.Saying.{takes_one}
 use Rattle.hb_run.proofs.shared.Shared.turn.Goals as goal
 
 pub take_turn-requires : goal.take_turn-requires
@@ -20,6 +23,13 @@ invariant_of-self g c =
 
 pub returns-clause-one : goal.returns-clause-one
 returns-clause-one g c =
-    let signs : Course g.row.D.Denot g.row.K.Denot g.D.Device g.K.Sink → Signs = λ x. signs_of x.roster.moves x.roster.coming (course_seen g.D.Device.model g.K.Sink.model x) in
-    let one : IsOneTurn (signs c.self.inside.course) (signs c.take_turn.new.self) = ⊎_elim (λ rests. inl (ap signs rests.0)) (λ took. inr took.1.counts.taken) c.take_turn.ensures.turn in
-    subst (λ (s : Signs). IsOneTurn s (signs c.take_turn.new.self)) c.self.view_is one
+    let seen : Course g.row.D.Denot g.row.K.Denot g.D.Device g.K.Sink → specs.Course = λ x. course_seen g.D.Device.model g.K.Sink.model x in
+    let board : Course g.row.D.Denot g.row.K.Denot g.D.Device g.K.Sink → Board = λ x. board_of x.roster.moves x.roster.coming x.roster.nexts (seen x) in
+    let takes = takes_one seen (λ x. x.roster.moves) (λ x. x.roster.coming) (λ x. x.roster.nexts) c.args.seat.now.actor c.self.inside.course.roster.free c.self.inside.course c.take_turn.new.self c.take_turn.result.0
+    c.take_turn.ensures.turn c.take_turn.ensures.notes in
+    subst (λ (b : Board). TakesOneTurn c.args.seat.now.actor c.take_turn.result.0 b (board c.take_turn.new.self)) c.self.view_is takes
+
+pub returns-clause-wakes : goal.returns-clause-wakes
+returns-clause-wakes g c =
+    let board : Course g.row.D.Denot g.row.K.Denot g.D.Device g.K.Sink → Board = λ x. board_of x.roster.moves x.roster.coming x.roster.nexts (course_seen g.D.Device.model g.K.Sink.model x) in
+    subst (λ (b : Board). WakesAll c.take_turn.result.1 b.signs (board c.take_turn.new.self).signs) c.self.view_is c.take_turn.ensures.wakes
