@@ -1,26 +1,25 @@
 //! Calls over disks in memory, and the images that each moment leaves.
 
-use crate::letters::{PICKS, disk_of, push_bytes};
+use crate::replies::{PICKS, Reply};
 use hb_disk::{Device, Disk, MemDisk, Pick, RotDisk, write_behind_gate, write_in_order};
-use hb_space::NoMemory;
 use std::alloc::Global;
-use std::test::Fail;
 
-fn push_image(text: &mut String, disk: &MemDisk, before: u64, pick: Pick) -> Result<(), NoMemory> {
-    if !text.is_empty() {
-        text.push(' ')?;
-    }
-    match disk.image(before, pick)? {
-        Some(image) => push_bytes(text, &image),
-        None => text.push_str("none"),
+// An image of a disk, or `none`.
+fn image(reply: &mut Reply, disk: &MemDisk, before: u64, pick: Pick) {
+    match disk.image(before, pick) {
+        Ok(Some(image)) => reply.bytes(&image),
+        Ok(None) => reply.say("none"),
+        Err(_) => reply.need(false),
     }
 }
 
-fn push_images(text: &mut String, disk: &MemDisk, before: u64) -> Result<(), NoMemory> {
+fn images(reply: &mut Reply, disk: &MemDisk, before: u64) {
     for pick in PICKS {
-        push_image(text, disk, before, pick)?;
+        if !reply.text().is_empty() {
+            reply.say(" ");
+        }
+        image(reply, disk, before, pick);
     }
-    Ok(())
 }
 
 fn writes<D: Device>(disk: &mut D, at: u64, from: &[u8]) -> bool {
@@ -45,62 +44,56 @@ fn five_calls<D: Device>(disk: &mut D) -> [bool; 5] {
     [wrote, synced, wrote_more, zeroed, reads(disk)]
 }
 
-fn push_calls(text: &mut String, disk: &mut MemDisk) -> Result<(), NoMemory> {
-    for done in five_calls(disk) {
-        text.push(if done { 'y' } else { 'n' })?;
+fn calls(reply: &mut Reply, disk: &mut MemDisk) {
+    for is_done in five_calls(disk) {
+        reply.say(if is_done { "y" } else { "n" });
     }
-    Ok(())
-}
-
-fn run_on(alloc: Global, disk: &mut MemDisk, before: u64) -> Result<String, NoMemory> {
-    let mut text = String::new(alloc);
-    push_calls(&mut text, disk)?;
-    push_images(&mut text, disk, before)?;
-    Ok(text)
 }
 
 /// Which of five calls succeed, and the images of a moment: from `FAILING | MOMENT`, the numbers of the calls
 /// that fail and the number of the call before which the moment lies.
-pub(crate) fn run(alloc: Global, question: &str) -> Result<String, Fail> {
-    let (failing, before) = question.split_once(" | ").ok_or("no moment")?;
-    let before = before.parse()?;
-    let mut disk = disk_of(alloc, "abcdefgh", failing)?;
-    Ok(run_on(alloc, &mut disk, before)?)
+pub(crate) fn run(reply: &mut Reply, question: &str) {
+    let (failing, before) = reply.parts(question, " | ");
+    let before = reply.read(before);
+    let mut disk = reply.disk("abcdefgh", failing);
+    calls(reply, &mut disk);
+    images(reply, &disk, before);
 }
 
 // The disk on which `ab` was written behind a gate.
-fn framed(alloc: Global) -> Result<MemDisk, Fail> {
-    let mut disk = MemDisk::new(alloc, b"ijklmnop".to_vec(alloc)?);
+fn framed(alloc: Global) -> Option<MemDisk> {
+    let mut disk = MemDisk::new(alloc, b"ijklmnop".to_vec(alloc).ok()?);
     match write_behind_gate(&mut disk, 1, b"ab") {
-        Ok(()) => Ok(disk),
-        Err(_) => Err("the frame wasn't written".into()),
+        Ok(()) => Some(disk),
+        Err(_) => None,
     }
 }
 
 // The disk on which `ab` and then `cd` was written.
-fn pieced(alloc: Global) -> Result<MemDisk, Fail> {
-    let mut disk = MemDisk::new(alloc, b"ijklmnop".to_vec(alloc)?);
+fn pieced(alloc: Global) -> Option<MemDisk> {
+    let mut disk = MemDisk::new(alloc, b"ijklmnop".to_vec(alloc).ok()?);
     match write_in_order(&mut disk, 0, b"ab", 4, b"cd") {
-        Ok(()) => Ok(disk),
-        Err(_) => Err("the pieces weren't written".into()),
+        Ok(()) => Some(disk),
+        Err(_) => None,
     }
 }
 
-fn images(alloc: Global, disk: &MemDisk, before: &str) -> Result<String, Fail> {
-    let before = before.parse()?;
-    let mut text = String::new(alloc);
-    push_images(&mut text, disk, before)?;
-    Ok(text)
+fn images_of(reply: &mut Reply, disk: &Option<MemDisk>, before: &str) {
+    let before = reply.read(before);
+    match disk {
+        Some(disk) => images(reply, disk, before),
+        None => reply.need(false),
+    }
 }
 
 /// The images of a moment while `ab` is written behind a gate.
-pub(crate) fn gate(alloc: Global, question: &str) -> Result<String, Fail> {
-    images(alloc, &framed(alloc)?, question)
+pub(crate) fn gate(reply: &mut Reply, question: &str) {
+    images_of(reply, &framed(reply.alloc), question);
 }
 
 /// The images of a moment while `ab` and then `cd` is written.
-pub(crate) fn order(alloc: Global, question: &str) -> Result<String, Fail> {
-    images(alloc, &pieced(alloc)?, question)
+pub(crate) fn order(reply: &mut Reply, question: &str) {
+    images_of(reply, &pieced(reply.alloc), question);
 }
 
 pub(crate) const ROWS: &str = "
@@ -135,12 +128,14 @@ rot: abcd => abcd;abXd;
 
 /// The disk's counts of calls, of those that changed it and of those that memory was refused to, and its bytes, behind five calls:
 /// from `BYTES`.
-pub(crate) fn count(alloc: Global, question: &str) -> Result<String, Fail> {
-    let mut disk = disk_of(alloc, question, "")?;
+pub(crate) fn count(reply: &mut Reply, question: &str) {
+    let mut disk = reply.disk(question, "");
     let _done = five_calls(&mut disk);
-    let mut text = format!(in alloc; "{} {} {} ", disk.calls(), disk.clock(), disk.starved())?;
-    push_bytes(&mut text, disk.bytes())?;
-    Ok(text)
+    for count in [disk.calls(), disk.clock(), disk.starved()] {
+        reply.number(count);
+        reply.say(" ");
+    }
+    reply.bytes(disk.bytes());
 }
 
 fn read_twice<D: Device>(disk: &mut D) -> Option<[[u8; 4]; 2]> {
@@ -155,17 +150,17 @@ fn read_twice<D: Device>(disk: &mut D) -> Option<[[u8; 4]; 2]> {
 }
 
 /// What two reads give of four bytes, the third of which is `X` from the second read on: from `BYTES`.
-pub(crate) fn rot(alloc: Global, question: &str) -> Result<String, Fail> {
+pub(crate) fn rot(reply: &mut Reply, question: &str) {
     let mut disk = RotDisk {
-        inner: disk_of(alloc, question, "")?,
+        inner: reply.disk(question, ""),
         before: 1,
         at: 2,
         byte: b'X',
     };
-    let mut text = String::new(alloc);
-    for read in read_twice(&mut disk).ok_or("no read")? {
-        push_bytes(&mut text, &read)?;
-        text.push(';')?;
+    let reads = read_twice(&mut disk);
+    reply.need(reads.is_some());
+    for read in reads.unwrap_or([[0; 4]; 2]) {
+        reply.bytes(&read);
+        reply.say(";");
     }
-    Ok(text)
 }

@@ -1,15 +1,13 @@
 //! A log's life over a disk in memory, what crashes and faults leave, and areas that are good, cut short or
 //! bad.
 
-ghost use Rattle.std.specs.Prelude.{◌≡◌, ◌≤◌, [], IfOk, IsTrue};
+ghost use Rattle.std.specs.Prelude.{◌≡◌, ◌≤◌, [], IfSome, IsTrue};
 ghost use Rattle.hb_wal.specs.Forces.{MayForce};
 
-use crate::letters::{PICKS, bytes_of, disk_of, push_bytes};
+use crate::replies::{PICKS, Reply};
 use hb_disk::{Device, MemDisk, Pick};
-use hb_space::NoMemory;
 use hb_wal::{Payloads, ReadStop, Wal, read_area, zero_area};
 use std::alloc::Global;
-use std::test::Fail;
 
 // The payloads of the frames in the whole of a disk, or why they aren't read.
 fn whole_area(alloc: Global, disk: &mut MemDisk) -> Result<Payloads, ReadStop> {
@@ -19,37 +17,35 @@ fn whole_area(alloc: Global, disk: &mut MemDisk) -> Result<Payloads, ReadStop> {
     }
 }
 
-fn push_payloads(text: &mut String, payloads: &Payloads) -> Result<(), NoMemory> {
+fn payloads(reply: &mut Reply, payloads: &Payloads) {
     for payload in payloads.as_slice() {
-        push_bytes(text, payload)?;
-        text.push(' ')?;
+        reply.bytes(payload);
+        reply.say(" ");
     }
-    Ok(())
 }
 
-fn push_read(text: &mut String, read: Result<Payloads, ReadStop>) -> Result<(), NoMemory> {
+fn read(reply: &mut Reply, read: &Result<Payloads, ReadStop>) {
     match read {
-        Ok(payloads) => {
-            push_payloads(text, &payloads)?;
-            text.push_str("end")
+        Ok(all) => {
+            payloads(reply, all);
+            reply.say("end");
         }
         Err(ReadStop::BadFrame { frame, before }) => {
-            push_payloads(text, &before)?;
-            write!(text, "bad {frame}")
+            payloads(reply, before);
+            reply.say("bad ");
+            reply.number(u64::from(*frame));
         }
-        Err(ReadStop::NoMemory) => text.push_str("no memory"),
-        Err(ReadStop::DiskFault) => text.push_str("disk fault"),
+        Err(ReadStop::NoMemory) => reply.say("no memory"),
+        Err(ReadStop::DiskFault) => reply.say("disk fault"),
     }
 }
 
 /// The payloads that are read from the whole of the bytes, and how the reading ends: from `BYTES` or
 /// `BYTES | FAILING`, where the calls of these numbers fail.
-pub(crate) fn area(alloc: Global, question: &str) -> Result<String, Fail> {
+pub(crate) fn area(reply: &mut Reply, question: &str) {
     let (bytes, failing) = question.split_once(" | ").unwrap_or((question, ""));
-    let mut disk = disk_of(alloc, bytes, failing)?;
-    let mut text = String::new(alloc);
-    push_read(&mut text, whole_area(alloc, &mut disk))?;
-    Ok(text)
+    let mut disk = reply.disk(bytes, failing);
+    read(reply, &whole_area(reply.alloc, &mut disk));
 }
 
 pub(crate) const AREAS: &str = "
@@ -95,16 +91,18 @@ fn wait(log: &mut Wal, groups: u8)
 }
 
 // A log of 24 bytes behind the first two, with so many groups that wait.
-fn begun<D: Device>(alloc: Global, disk: &mut D, groups: u8) -> Result<Wal, Fail>
+fn begun<D: Device>(alloc: Global, disk: &mut D, groups: u8) -> Option<Wal>
     requires { 26 ≤ (D.model disk.old).size }
-    ensures ready { IfOk result (λ log. MayForce (D.model disk.new) log) }
+    ensures ready { IfSome result (λ log. MayForce (D.model disk.new) log) }
 {
     let Ok(()) = zero_area(disk, 2, 24) else {
-        return Err("the area wasn't zeroed".into());
+        return None;
     };
-    let mut log = Wal::new(alloc, 2, 24)?;
+    let Ok(mut log) = Wal::new(alloc, 2, 24) else {
+        return None;
+    };
     wait(&mut log, groups);
-    Ok(log)
+    Some(log)
 }
 
 // Lets one more group wait, `e`, where none does and it has room.
@@ -148,104 +146,91 @@ fn force_again<D: Device>(disk: &mut D, log: &mut Wal, forces: u8)
 }
 
 // How many groups wait at first, and whether they are forced before one more waits: from `GROUPS` or `GROUPS+1`.
-fn groups_of(text: &str) -> Result<(u8, bool), Fail> {
-    match text.split_once('+') {
-        Some((groups, "1")) => Ok((groups.parse()?, true)),
-        Some(_) => Err("more than one group more".into()),
-        None => Ok((text.parse()?, false)),
-    }
+fn groups_of(reply: &mut Reply, text: &str) -> (u8, bool) {
+    let (groups, more) = text.split_once('+').unwrap_or((text, ""));
+    reply.need(more.is_empty() || more == "1");
+    (reply.read_byte(groups), more == "1")
 }
 
-// The log of such groups after so many forces of the last ones, or up to the first that fails.
+// The log of so many groups after so many forces, or up to the first that fails. Where one more group waits, a force is
+// before it.
 fn forced_often<D: Device>(
     alloc: Global,
     disk: &mut D,
-    groups: &str,
+    groups: u8,
+    is_again: bool,
     forces: u8,
-) -> Result<Wal, Fail> {
+) -> Option<Wal> {
     if disk.size() < 26 {
-        return Err("a small disk".into());
+        return None;
     }
-    let (groups, is_again) = groups_of(groups)?;
     let mut log = begun(alloc, disk, groups)?;
     if is_again {
         force_again(disk, &mut log, forces);
     } else {
         force_often(disk, &mut log, forces);
     }
-    Ok(log)
+    Some(log)
 }
 
 // The bytes that wait, those that are written, and the mark of the oldest group that waits, or 9.
-fn push_log(text: &mut String, log: &Wal) -> Result<(), NoMemory> {
-    write!(
-        text,
-        "{} {} {}",
-        log.pending(),
-        log.written(),
-        log.settled(9)
-    )
-}
-
-fn push_life(
-    alloc: Global,
-    text: &mut String,
-    disk: &mut MemDisk,
-    groups: &str,
-    forces: u8,
-) -> Result<(), Fail> {
-    let log = forced_often(alloc, disk, groups, forces)?;
-    push_log(text, &log)?;
-    write!(text, " {} {} ", log.room(), disk.calls())?;
-    Ok(push_bytes(text, disk.bytes())?)
+fn say_log(reply: &mut Reply, log: &Wal) {
+    reply.number(u64::from(log.pending()));
+    reply.say(" ");
+    reply.number(u64::from(log.written()));
+    reply.say(" ");
+    reply.number(u64::from(log.settled(9)));
 }
 
 /// The log, its room, the calls of the disk and its bytes: from `GROUPS FORCES`.
-pub(crate) fn life(alloc: Global, question: &str) -> Result<String, Fail> {
-    let (groups, forces) = question.split_once(' ').ok_or("no forces")?;
-    let forces = forces.parse()?;
-    let mut text = String::new(alloc);
-    let mut disk = disk_of(alloc, NOISE, "")?;
-    push_life(alloc, &mut text, &mut disk, groups, forces)?;
-    Ok(text)
-}
-
-// The log's area in an image of the disk.
-fn area_in(alloc: Global, disk: &MemDisk, before: u64, pick: Pick) -> Result<Vec<u8>, Fail> {
-    let image = disk.image(before, pick)?.ok_or("no such moment")?;
-    let area = image.get(2..26).ok_or("a short image")?;
-    Ok(area.to_vec(alloc)?)
-}
-
-fn push_areas(alloc: Global, text: &mut String, disk: &MemDisk, before: u64) -> Result<(), Fail> {
-    for pick in PICKS {
-        let area = area_in(alloc, disk, before, pick)?;
-        text.push_str(", ")?;
-        push_read(text, whole_area(alloc, &mut MemDisk::new(alloc, area)))?;
+pub(crate) fn life(reply: &mut Reply, question: &str) {
+    let (groups, forces) = reply.parts(question, " ");
+    let (groups, is_again) = groups_of(reply, groups);
+    let forces = reply.read_byte(forces);
+    let mut disk = reply.disk(NOISE, "");
+    let log = forced_often(reply.alloc, &mut disk, groups, is_again, forces);
+    reply.need(log.is_some());
+    if let Some(log) = &log {
+        say_log(reply, log);
+        reply.say(" ");
+        reply.number(u64::from(log.room()));
     }
-    Ok(())
+    reply.say(" ");
+    reply.number(disk.calls());
+    reply.say(" ");
+    reply.bytes(disk.bytes());
 }
 
-fn push_force(
-    alloc: Global,
-    text: &mut String,
-    disk: &mut MemDisk,
-    groups: &str,
-    before: u64,
-) -> Result<(), Fail> {
-    push_log(text, &forced_often(alloc, disk, groups, 1)?)?;
-    push_areas(alloc, text, disk, before)
+// The log's area in an image of the disk, as a disk.
+fn area_in(alloc: Global, disk: &MemDisk, before: u64, pick: Pick) -> Option<MemDisk> {
+    let image = disk.image(before, pick).ok()??;
+    let area = image.get(2..26)?.to_vec(alloc).ok()?;
+    Some(MemDisk::new(alloc, area))
+}
+
+// What is read of the three images of a moment.
+fn areas(reply: &mut Reply, disk: &MemDisk, before: u64) {
+    for pick in PICKS {
+        reply.say(", ");
+        match area_in(reply.alloc, disk, before, pick) {
+            Some(mut area) => read(reply, &whole_area(reply.alloc, &mut area)),
+            None => reply.need(false),
+        }
+    }
 }
 
 /// The log after a force of the last groups, and what is read of the images of a moment: from `GROUPS | FAILING | MOMENT`.
-pub(crate) fn force(alloc: Global, question: &str) -> Result<String, Fail> {
-    let (groups, rest) = question.split_once(" | ").ok_or("no groups")?;
-    let (failing, before) = rest.split_once(" | ").ok_or("no moment")?;
-    let before = before.parse()?;
-    let mut text = String::new(alloc);
-    let mut disk = disk_of(alloc, NOISE, failing)?;
-    push_force(alloc, &mut text, &mut disk, groups, before)?;
-    Ok(text)
+pub(crate) fn force(reply: &mut Reply, question: &str) {
+    let (groups, rest) = reply.parts(question, " | ");
+    let (failing, before) = reply.parts(rest, " | ");
+    let (groups, is_again) = groups_of(reply, groups);
+    let before = reply.read(before);
+    let mut disk = reply.disk(NOISE, failing);
+    match forced_often(reply.alloc, &mut disk, groups, is_again, 1) {
+        Some(log) => say_log(reply, &log),
+        None => reply.need(false),
+    }
+    areas(reply, &disk, before);
 }
 
 // The area takes two calls, and a force of whatever waits four. Room is counted as if each group that waits were a frame.
@@ -328,37 +313,40 @@ force: 3+1 | 9 | 10 => 1 9 7, abcd end, abcd e end, abcd e end
 const PUT: [u8; 16] = [0, 1, 0, 0, 0, 1, 0, 0, 0, 0, 0, 0, 0, 5, 1, b'a'];
 
 // Forces a put's group into an area of exactly its frame's length, and tells the room before, between and behind.
-fn put<D: Device>(alloc: Global, disk: &mut D) -> Result<[u32; 3], Fail>
+fn put<D: Device>(alloc: Global, disk: &mut D) -> Option<[u32; 3]>
     requires { 22 ≤ (D.model disk.old).size }
 {
     let Ok(()) = zero_area(disk, 1, 21) else {
-        return Err("the area wasn't zeroed".into());
+        return None;
     };
-    let mut log = Wal::new(alloc, 1, 21)?;
+    let Ok(mut log) = Wal::new(alloc, 1, 21) else {
+        return None;
+    };
     let before = log.room();
     log.append(&PUT, 0);
     let between = log.room();
     if log.force(disk).is_err() {
-        return Err("the frame wasn't written".into());
+        return None;
     }
     log.move_to(0);
-    Ok([before, between, log.room()])
+    Some([before, between, log.room()])
 }
 
-fn push_put(alloc: Global, text: &mut String, disk: &mut MemDisk) -> Result<(), Fail> {
+fn put_where_it_fits<D: Device>(alloc: Global, disk: &mut D) -> Option<[u32; 3]> {
     if disk.size() < 22 {
-        return Err("a small disk".into());
+        return None;
     }
-    for room in put(alloc, disk)? {
-        write!(text, "{room} ")?;
-    }
-    Ok(push_bytes(text, disk.bytes())?)
+    put(alloc, disk)
 }
 
 /// The room before, between and behind, and the bytes of the disk.
-pub(crate) fn frame(alloc: Global) -> Result<String, Fail> {
-    let mut disk = disk_of(alloc, NOISE, "")?;
-    let mut text = String::new(alloc);
-    push_put(alloc, &mut text, &mut disk)?;
-    Ok(text)
+pub(crate) fn frame(reply: &mut Reply) {
+    let mut disk = reply.disk(NOISE, "");
+    let rooms = put_where_it_fits(reply.alloc, &mut disk);
+    reply.need(rooms.is_some());
+    for room in rooms.unwrap_or([0; 3]) {
+        reply.number(u64::from(room));
+        reply.say(" ");
+    }
+    reply.bytes(disk.bytes());
 }

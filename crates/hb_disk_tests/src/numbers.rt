@@ -1,62 +1,63 @@
 //! Numbers as bytes, and back.
 
-use crate::letters::numbers_of;
+use crate::replies::Reply;
 use hb_outside::{give_u16, give_u32, give_u64, take_u8, take_u16, take_u32, take_u64};
-use std::alloc::Global;
-use std::test::Fail;
 
 // Writes the number in so many bytes at place 1.
-fn give(into: &mut [u8; 10], width: &str, n: &str) -> Result<(), Fail> {
+fn give(reply: &mut Reply, into: &mut [u8; 10], width: &str, n: u64) {
     match width {
-        "2" => give_u16(into, 1, n.parse()?),
-        "4" => give_u32(into, 1, n.parse()?),
-        "8" => give_u64(into, 1, n.parse()?),
-        _ => return Err("no such width".into()),
+        "2" if n < 1 << 16 => give_u16(into, 1, n as u16),
+        "4" if n < 1 << 32 => give_u32(into, 1, n as u32),
+        "8" => give_u64(into, 1, n),
+        _ => reply.need(false),
     }
-    Ok(())
 }
 
 /// Ten bytes that were 9 before the number was given at place 1: from `WIDTH NUMBER`.
-pub(crate) fn given(alloc: Global, question: &str) -> Result<String, Fail> {
-    let (width, n) = question.split_once(' ').ok_or("no number")?;
+pub(crate) fn given(reply: &mut Reply, question: &str) {
+    let (width, n) = reply.parts(question, " ");
+    let n = reply.read(n);
     let mut bytes = [9; 10];
-    give(&mut bytes, width, n)?;
-    let mut text = String::new(alloc);
+    give(reply, &mut bytes, width, n);
     let mut mark = "";
     for byte in bytes {
-        write!(text, "{mark}{byte}")?;
+        reply.say(mark);
+        reply.number(u64::from(byte));
         mark = " ";
     }
-    Ok(text)
 }
 
-fn take(bytes: &[u8], width: &str, at: usize) -> Result<Option<u64>, Fail> {
+fn take(reply: &mut Reply, bytes: &[u8], width: &str, at: usize) -> Option<u64> {
     match width {
-        "1" => Ok(take_u8(bytes, at).map(|n| u64::from(n))),
-        "2" => Ok(take_u16(bytes, at).map(|n| u64::from(n))),
-        "4" => Ok(take_u32(bytes, at).map(|n| u64::from(n))),
-        "8" => Ok(take_u64(bytes, at)),
-        _ => Err("no such width".into()),
+        "1" => take_u8(bytes, at).map(|n| u64::from(n)),
+        "2" => take_u16(bytes, at).map(|n| u64::from(n)),
+        "4" => take_u32(bytes, at).map(|n| u64::from(n)),
+        _ => {
+            reply.need(width == "8");
+            take_u64(bytes, at)
+        }
     }
 }
 
 // Bytes from text, with a blank between them.
-fn words_of(alloc: Global, text: &str) -> Result<Vec<u8>, Fail> {
-    let mut bytes = Vec::new(alloc);
+fn words_of(reply: &mut Reply, text: &str) -> Vec<u8> {
+    let mut bytes = Vec::new(reply.alloc);
     for word in text.split_whitespace() {
-        bytes.push(word.parse()?)?;
+        let is_done = bytes.push(reply.read_byte(word)).is_ok();
+        reply.need(is_done);
     }
-    Ok(bytes)
+    bytes
 }
 
 /// The number that is taken: from `WIDTH PLACE | BYTES`.
-pub(crate) fn taken(alloc: Global, question: &str) -> Result<String, Fail> {
-    let (asked, bytes) = question.split_once(" | ").ok_or("no bytes")?;
-    let (width, at) = asked.split_once(' ').ok_or("no place")?;
-    let bytes = words_of(alloc, bytes)?;
-    match take(&bytes, width, at.parse()?)? {
-        Some(n) => Ok(format!(in alloc; "{n}")?),
-        None => Ok("none".to_string(alloc)?),
+pub(crate) fn taken(reply: &mut Reply, question: &str) {
+    let (asked, bytes) = reply.parts(question, " | ");
+    let (width, at) = reply.parts(asked, " ");
+    let at = reply.read(at) as usize;
+    let bytes = words_of(reply, bytes);
+    match take(reply, &bytes, width, at) {
+        Some(n) => reply.number(n),
+        None => reply.say("none"),
     }
 }
 

@@ -1,54 +1,59 @@
 //! Tables of rows. A row is `KIND: QUESTION => ANSWER`; a line that begins with `//` is a comment.
 
+use crate::replies::Reply;
 use crate::{disks, logs, numbers, streams, supers};
 use std::alloc::Global;
 use std::process::Abort;
-use std::test::Fail;
 
-fn answer(alloc: Global, text: &str) -> Result<String, Fail> {
-    let (kind, question) = text.split_once(": ").ok_or("no question")?;
+fn answer(reply: &mut Reply, kind: &str, question: &str) {
     match kind {
-        "source" => streams::source(alloc, question),
-        "sink" => streams::sink(alloc, question),
-        "reader" => streams::reader(alloc, question),
-        "slice" => streams::slice(alloc, question),
-        "writer" => streams::writer(alloc, question),
-        "vector" => streams::vector(alloc),
-        "give" => numbers::given(alloc, question),
-        "take" => numbers::taken(alloc, question),
-        "run" => disks::run(alloc, question),
-        "gate" => disks::gate(alloc, question),
-        "order" => disks::order(alloc, question),
-        "count" => disks::count(alloc, question),
-        "rot" => disks::rot(alloc, question),
-        "area" => logs::area(alloc, question),
-        "life" => logs::life(alloc, question),
-        "force" => logs::force(alloc, question),
-        "frame" => logs::frame(alloc),
-        "first" => supers::first(alloc),
-        "newest" => supers::newest(alloc, question),
-        "write" => supers::write(alloc, question),
-        "clear" => supers::clear(alloc, question),
-        _ => Err("no such kind of question".into()),
+        "source" => streams::source(reply, question),
+        "sink" => streams::sink(reply, question),
+        "reader" => streams::reader(reply, question),
+        "slice" => streams::slice(reply, question),
+        "writer" => streams::writer(reply, question),
+        "vector" => streams::vector(reply),
+        "give" => numbers::given(reply, question),
+        "take" => numbers::taken(reply, question),
+        "run" => disks::run(reply, question),
+        "gate" => disks::gate(reply, question),
+        "order" => disks::order(reply, question),
+        "count" => disks::count(reply, question),
+        "rot" => disks::rot(reply, question),
+        "area" => logs::area(reply, question),
+        "life" => logs::life(reply, question),
+        "force" => logs::force(reply, question),
+        "frame" => logs::frame(reply),
+        "first" => supers::first(reply),
+        "newest" => supers::newest(reply, question),
+        "write" => supers::write(reply, question),
+        "clear" => supers::clear(reply, question),
+        _ => reply.need(false),
     }
+}
+
+// What is said of a row's question, and the answer that is wanted.
+fn replied<'a>(reply: &mut Reply, row: &'a str) -> &'a str {
+    let (asked, wanted) = reply.parts(row, " => ");
+    let (kind, question) = reply.parts(asked, ": ");
+    answer(reply, kind, question);
+    wanted
 }
 
 // Asserts that a row's question has the row's answer.
-fn expect(rt: &impl Abort, alloc: Global, row: &str) -> Result<(), Fail> {
-    let (question, wanted) = row.split_once(" => ").ok_or("no answer")?;
-    let answer = answer(alloc, question)?;
-    assert_eq!(rt; answer.as_str(), wanted, "{question}");
-    Ok(())
+fn expect(rt: &impl Abort, alloc: Global, row: &str) {
+    let mut reply = Reply::new(alloc);
+    let wanted = replied(&mut reply, row);
+    assert!(rt; reply.is(wanted), "{row}: {}", reply.text());
 }
 
 // Asserts that each row's question has the row's answer.
-fn expect_all(rt: &impl Abort, alloc: Global, rows: &str) -> Result<(), Fail> {
+fn expect_all(rt: &impl Abort, alloc: Global, rows: &str) {
     for row in rows.lines() {
         if !row.is_empty() && !row.starts_with("//") {
-            expect(rt, alloc, row)?;
+            expect(rt, alloc, row);
         }
     }
-    Ok(())
 }
 
 const TABLES: [&str; 7] = [
@@ -62,9 +67,8 @@ const TABLES: [&str; 7] = [
 ];
 
 #[test]
-fn rows_are_answered(rt: HostRuntime) -> Result<(), Fail> {
+fn rows_are_answered(rt: HostRuntime) {
     for table in TABLES {
-        expect_all(&rt, rt.alloc(), table)?;
+        expect_all(&rt, rt.alloc(), table);
     }
-    Ok(())
 }

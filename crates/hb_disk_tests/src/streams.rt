@@ -1,65 +1,61 @@
 //! Takes from sources and puts into sinks, over memory and over a reader and a writer, some of which fail.
 
-use crate::letters::{bytes_of, numbers_of, push_bytes};
+use crate::replies::Reply;
 use hb_outside::{Failed, MemSink, MemSource, ReadSource, Sink, Source, WriteSink};
-use hb_space::NoMemory;
-use std::alloc::Global;
 use std::io;
 use std::io::{Error, ErrorKind, Read, Write};
-use std::test::Fail;
 
 // What four takes of two bytes gave, a stroke behind each. A failed one is `!`.
-fn push_takes<S: Source>(text: &mut String, source: &mut S) -> Result<(), NoMemory> {
+fn takes<S: Source>(reply: &mut Reply, source: &mut S) {
     for _ in 0..4 {
         let mut into = [0; 2];
         match source.take(&mut into) {
-            Ok(n) => push_bytes(text, &into[..n])?,
-            Err(Failed) => text.push('!')?,
+            Ok(n) => reply.bytes(&into[..n]),
+            Err(Failed) => reply.say("!"),
         }
-        text.push('|')?;
+        reply.say("|");
     }
-    Ok(())
 }
 
 // Puts four pieces, one of them empty: a stroke for each, or `!` where it failed.
-fn push_puts<S: Sink>(text: &mut String, sink: &mut S) -> Result<(), NoMemory> {
+fn puts<S: Sink>(reply: &mut Reply, sink: &mut S) {
     for &piece in &["ab", "", "cde", "f"] {
-        let done = sink.put(piece.as_bytes()).is_ok();
-        text.push(if done { '|' } else { '!' })?;
+        let is_done = sink.put(piece.as_bytes()).is_ok();
+        reply.say(if is_done { "|" } else { "!" });
     }
-    Ok(())
 }
 
 /// Four takes from memory, what is left and the calls that were made: from `BYTES | FAILING`.
-pub(crate) fn source(alloc: Global, question: &str) -> Result<String, Fail> {
-    let (bytes, failing) = question.split_once(" | ").ok_or("no calls")?;
-    let failing = numbers_of(alloc, failing)?;
-    let mut source = MemSource::new(bytes_of(alloc, bytes)?, failing);
-    let mut text = String::new(alloc);
-    push_takes(&mut text, &mut source)?;
-    push_bytes(&mut text, source.bytes())?;
-    write!(text, " {}", source.calls_made())?;
-    Ok(text)
+pub(crate) fn source(reply: &mut Reply, question: &str) {
+    let (bytes, failing) = reply.parts(question, " | ");
+    let mut source = MemSource::new(reply.read_bytes(bytes), reply.read_all(failing));
+    takes(reply, &mut source);
+    reply.bytes(source.bytes());
+    reply.say(" ");
+    reply.number(source.calls_made());
 }
 
 /// Four puts into memory, what was written, the calls that were made and those that were starved: from `FAILING`.
-pub(crate) fn sink(alloc: Global, question: &str) -> Result<String, Fail> {
-    let mut sink = MemSink::new(alloc, numbers_of(alloc, question)?);
-    let mut text = String::new(alloc);
-    push_puts(&mut text, &mut sink)?;
-    push_bytes(&mut text, sink.bytes())?;
-    write!(text, " {} {}", sink.calls_made(), sink.starved())?;
-    Ok(text)
+pub(crate) fn sink(reply: &mut Reply, question: &str) {
+    let mut sink = MemSink::new(reply.alloc, reply.read_all(question));
+    puts(reply, &mut sink);
+    reply.bytes(sink.bytes());
+    reply.say(" ");
+    reply.number(sink.calls_made());
+    reply.say(" ");
+    reply.number(sink.starved());
 }
 
 // The kind of an error. None for a write that takes nothing.
-fn trouble_of(word: &str) -> Result<Option<ErrorKind>, Fail> {
+fn trouble_of(reply: &mut Reply, word: &str) -> Option<ErrorKind> {
     match word {
-        "denied" => Ok(Some(ErrorKind::PermissionDenied)),
-        "blocked" => Ok(Some(ErrorKind::WouldBlock)),
-        "interrupted" => Ok(Some(ErrorKind::Interrupted)),
-        "nothing" => Ok(None),
-        _ => Err("no such trouble".into()),
+        "denied" => Some(ErrorKind::PermissionDenied),
+        "blocked" => Some(ErrorKind::WouldBlock),
+        "interrupted" => Some(ErrorKind::Interrupted),
+        _ => {
+            reply.need(word == "nothing");
+            None
+        }
     }
 }
 
@@ -87,27 +83,24 @@ impl Read for FaultyReader {
 }
 
 /// Four takes from a reader of `abc`, and how many bytes are left in it: from `AT TROUBLE`.
-pub(crate) fn reader(alloc: Global, question: &str) -> Result<String, Fail> {
-    let (at, trouble) = question.split_once(' ').ok_or("no trouble")?;
+pub(crate) fn reader(reply: &mut Reply, question: &str) {
+    let (at, trouble) = reply.parts(question, " ");
     let mut source = ReadSource::new(FaultyReader {
         bytes: b"abc",
         call: 0,
-        at: at.parse()?,
-        trouble: trouble_of(trouble)?,
+        at: reply.read(at),
+        trouble: trouble_of(reply, trouble),
     });
-    let mut text = String::new(alloc);
-    push_takes(&mut text, &mut source)?;
-    write!(text, " {}", source.into_inner().bytes.len())?;
-    Ok(text)
+    takes(reply, &mut source);
+    reply.say(" ");
+    reply.number(source.into_inner().bytes.len() as u64);
 }
 
 /// Four takes from a reader that tells its bytes, and what is left in it: from `BYTES`.
-pub(crate) fn slice(alloc: Global, question: &str) -> Result<String, Fail> {
+pub(crate) fn slice(reply: &mut Reply, question: &str) {
     let mut source = ReadSource::telling(question.as_bytes());
-    let mut text = String::new(alloc);
-    push_takes(&mut text, &mut source)?;
-    push_bytes(&mut text, source.into_inner())?;
-    Ok(text)
+    takes(reply, &mut source);
+    reply.bytes(source.into_inner());
 }
 
 // Writes to memory at most so many bytes at once, with trouble at the write of one number alone, and an error at
@@ -146,45 +139,40 @@ impl Write for FaultyWriter {
 }
 
 // Puts four pieces and flushes three times: a stroke for each, or `!` where it failed.
-fn push_writes<W: Write>(text: &mut String, sink: &mut WriteSink<W>) -> Result<(), NoMemory> {
-    push_puts(text, sink)?;
-    text.push(' ')?;
+fn writes<W: Write>(reply: &mut Reply, sink: &mut WriteSink<W>) {
+    puts(reply, sink);
+    reply.say(" ");
     for _ in 0..3 {
-        let done = sink.flush().is_ok();
-        text.push(if done { '|' } else { '!' })?;
+        let is_done = sink.flush().is_ok();
+        reply.say(if is_done { "|" } else { "!" });
     }
-    Ok(())
 }
 
-fn writer_of(alloc: Global, text: &str) -> Result<FaultyWriter, Fail> {
-    let (most, rest) = text.split_once(' ').ok_or("no call")?;
-    let (at, trouble) = rest.split_once(' ').ok_or("no trouble")?;
-    Ok(FaultyWriter {
-        bytes: Vec::new(alloc),
-        most: most.parse()?,
+fn writer_of(reply: &mut Reply, text: &str) -> FaultyWriter {
+    let (most, rest) = reply.parts(text, " ");
+    let (at, trouble) = reply.parts(rest, " ");
+    FaultyWriter {
+        bytes: Vec::new(reply.alloc),
+        most: reply.read(most) as usize,
         call: 0,
-        at: at.parse()?,
-        trouble: trouble_of(trouble)?,
+        at: reply.read(at),
+        trouble: trouble_of(reply, trouble),
         failing_flushes: 2,
-    })
+    }
 }
 
 /// Four puts into a writer, three flushes, and what was written: from `MOST AT TROUBLE`.
-pub(crate) fn writer(alloc: Global, question: &str) -> Result<String, Fail> {
-    let mut sink = WriteSink::new(writer_of(alloc, question)?);
-    let mut text = String::new(alloc);
-    push_writes(&mut text, &mut sink)?;
-    push_bytes(&mut text, &sink.into_inner().bytes)?;
-    Ok(text)
+pub(crate) fn writer(reply: &mut Reply, question: &str) {
+    let mut sink = WriteSink::new(writer_of(reply, question));
+    writes(reply, &mut sink);
+    reply.bytes(&sink.into_inner().bytes);
 }
 
 /// The same with a writer that tells its bytes: from nothing.
-pub(crate) fn vector(alloc: Global) -> Result<String, Fail> {
-    let mut sink = WriteSink::telling(Vec::new(alloc));
-    let mut text = String::new(alloc);
-    push_writes(&mut text, &mut sink)?;
-    push_bytes(&mut text, &sink.into_inner())?;
-    Ok(text)
+pub(crate) fn vector(reply: &mut Reply) {
+    let mut sink = WriteSink::telling(Vec::new(reply.alloc));
+    writes(reply, &mut sink);
+    reply.bytes(&sink.into_inner());
 }
 
 pub(crate) const ROWS: &str = "

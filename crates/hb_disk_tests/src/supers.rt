@@ -2,14 +2,13 @@
 //!
 //! A superblock is spelled as what differs from `SUPER`, `PLACE=BYTE` for each such byte, or `zeros`.
 
-ghost use Rattle.std.specs.Prelude.{◌≡◌, ◌≤◌};
+ghost use Rattle.std.specs.Prelude.{◌≤◌};
 
-use crate::letters::{PICKS, numbers_of};
+use crate::replies::{PICKS, Reply};
 use hb_disk::{Device, MemDisk, Pick};
 use hb_layout::Meta;
 use hb_super::{SuperStop, clear_hidden, read_super, write_super};
 use std::alloc::Global;
-use std::test::Fail;
 
 // What a file of one attribute with 64 pages says when it is made.
 const META: Meta = Meta {
@@ -32,49 +31,64 @@ const SUPER: [u8; 41] = [
     0x01, 0x00, 0x00, 0x00, 0x01, 0x00, 0x00, 0x00, 0x00,
 ];
 
-fn put_byte(bytes: &mut [u8], at: usize, byte: u8) -> Result<(), Fail> {
-    *bytes.get_mut(at).ok_or("no such place")? = byte;
-    Ok(())
+fn put_byte(bytes: &mut [u8; 41], at: u64, byte: u8) -> bool {
+    if at < 41 {
+        bytes[at as usize] = byte;
+    }
+    at < 41
 }
 
-fn super_of(text: &str) -> Result<[u8; 41], Fail> {
+fn super_of(reply: &mut Reply, text: &str) -> [u8; 41] {
     if text == "zeros" {
-        return Ok([0; 41]);
+        return [0; 41];
     }
     let mut bytes = SUPER;
     for word in text.split_whitespace() {
-        let (at, byte) = word.split_once('=').ok_or("no byte")?;
-        put_byte(&mut bytes, at.parse()?, byte.parse()?)?;
+        let (at, byte) = reply.parts(word, "=");
+        let is_there = put_byte(&mut bytes, reply.read(at), reply.read_byte(byte));
+        reply.need(is_there);
     }
-    Ok(bytes)
+    bytes
 }
 
-// The two places with these bytes, and zeros behind them, on a disk that fails at the calls of these numbers.
-fn disk_of(alloc: Global, first: &str, second: &str, failing: &str) -> Result<MemDisk, Fail> {
-    let mut bytes = vec![in alloc; 0; 8192]?;
-    bytes[..41].copy_from_slice(&super_of(first)?);
-    bytes[4096..4137].copy_from_slice(&super_of(second)?);
-    Ok(MemDisk::failing(alloc, bytes, numbers_of(alloc, failing)?))
+// The two places with these bytes, and zeros behind them.
+fn places(alloc: Global, first: &[u8; 41], second: &[u8; 41]) -> Option<Vec<u8>> {
+    let Ok(mut bytes) = vec![in alloc; 0; 8192] else {
+        return None;
+    };
+    bytes[..41].copy_from_slice(first);
+    bytes[4096..4137].copy_from_slice(second);
+    Some(bytes)
 }
 
-// The newest turn. 8 where there is none, and 9 where the disk fails.
-fn turn_of<D: Device>(disk: &mut D) -> Result<u8, Fail> {
+// A disk of two places that fails at the calls of these numbers.
+fn disk_of(reply: &mut Reply, first: &str, second: &str, failing: &str) -> MemDisk {
+    let first = super_of(reply, first);
+    let second = super_of(reply, second);
+    let bytes = places(reply.alloc, &first, &second);
+    reply.need(bytes.is_some());
+    let failing = reply.read_all(failing);
+    MemDisk::failing(reply.alloc, bytes.unwrap_or(Vec::new(reply.alloc)), failing)
+}
+
+// The newest turn. 7 where the disk is too small, 8 where there is none, and 9 where the disk fails.
+fn turn_of<D: Device>(disk: &mut D) -> u64 {
     if disk.size() < 8192 {
-        return Err("a small disk".into());
+        return 7;
     }
     match read_super(disk) {
-        Ok((turn, _)) => Ok(turn),
-        Err(SuperStop::NoSuper) => Ok(8),
-        Err(SuperStop::DiskFault) => Ok(9),
+        Ok((turn, _)) => u64::from(turn),
+        Err(SuperStop::NoSuper) => 8,
+        Err(SuperStop::DiskFault) => 9,
     }
 }
 
 /// The newest turn of two places: from `FIRST | SECOND` or `FIRST | SECOND | FAILING`.
-pub(crate) fn newest(alloc: Global, question: &str) -> Result<String, Fail> {
-    let (first, rest) = question.split_once(" | ").ok_or("no second place")?;
+pub(crate) fn newest(reply: &mut Reply, question: &str) {
+    let (first, rest) = reply.parts(question, " | ");
     let (second, failing) = rest.split_once(" | ").unwrap_or((rest, ""));
-    let turn = turn_of(&mut disk_of(alloc, first, second, failing)?)?;
-    Ok(format!(in alloc; "{turn}")?)
+    let mut disk = disk_of(reply, first, second, failing);
+    reply.number(turn_of(&mut disk));
 }
 
 // Whether the superblock of a turn is written.
@@ -84,31 +98,26 @@ fn wrote<D: Device>(disk: &mut D, turn: u8) -> bool
     disk.size() >= 8192 && write_super(disk, turn, &META).is_ok()
 }
 
-// The newest turn of an image of the disk.
-fn turn_in(alloc: Global, disk: &MemDisk, before: u64, pick: Pick) -> Result<u8, Fail> {
-    let image = disk.image(before, pick)?.ok_or("no such moment")?;
-    turn_of(&mut MemDisk::new(alloc, image))
-}
-
-fn push_repeats(alloc: Global, text: &mut String, disk: &MemDisk, before: u64) -> Result<(), Fail> {
-    for pick in PICKS {
-        let turn = turn_in(alloc, disk, before, pick)?;
-        write!(text, " {turn}")?;
+// The newest turn of an image of the disk, or `none`.
+fn image(reply: &mut Reply, disk: &MemDisk, before: u64, pick: Pick) {
+    match disk.image(before, pick) {
+        Ok(Some(image)) => reply.number(turn_of(&mut MemDisk::new(reply.alloc, image))),
+        _ => reply.say("none"),
     }
-    Ok(())
 }
 
 /// Whether turn 1 is written beside `SUPER`, and the newest turns of the images of a moment: from
 /// `SECOND | FAILING | MOMENT`.
-pub(crate) fn write(alloc: Global, question: &str) -> Result<String, Fail> {
-    let (second, rest) = question.split_once(" | ").ok_or("no calls")?;
-    let (failing, before) = rest.split_once(" | ").ok_or("no moment")?;
-    let before = before.parse()?;
-    let mut disk = disk_of(alloc, "", second, failing)?;
-    let done = wrote(&mut disk, 1);
-    let mut text = format!(in alloc; "{done}")?;
-    push_repeats(alloc, &mut text, &disk, before)?;
-    Ok(text)
+pub(crate) fn write(reply: &mut Reply, question: &str) {
+    let (second, rest) = reply.parts(question, " | ");
+    let (failing, before) = reply.parts(rest, " | ");
+    let before = reply.read(before);
+    let mut disk = disk_of(reply, "", second, failing);
+    reply.truth(wrote(&mut disk, 1));
+    for pick in PICKS {
+        reply.say(" ");
+        image(reply, &disk, before, pick);
+    }
 }
 
 // Whether the place of turn 1 is made to hide nothing but what META says.
@@ -117,23 +126,25 @@ fn cleared<D: Device>(disk: &mut D) -> bool {
 }
 
 // What became of the second place.
-fn fate(place: &str, after: Option<&[u8]>) -> Result<&'static str, Fail> {
-    let after = after.ok_or("a short disk")?;
-    if after == super_of(place)?.as_slice() {
-        Ok("as it was")
-    } else if after == [0; 41].as_slice() {
-        Ok("zeros")
+fn fate(place: &[u8; 41], after: Option<&[u8]>) -> &'static str {
+    if after == Some(place.as_slice()) {
+        "as it was"
+    } else if after == Some([0; 41].as_slice()) {
+        "zeros"
     } else {
-        Err("some other bytes".into())
+        "some other bytes"
     }
 }
 
 /// Whether the second place is made to hide nothing, by how many calls, and what becomes of it: from `SECOND`.
-pub(crate) fn clear(alloc: Global, question: &str) -> Result<String, Fail> {
-    let mut disk = disk_of(alloc, "", question, "")?;
-    let done = cleared(&mut disk);
-    let fate = fate(question, disk.bytes().get(4096..4137))?;
-    Ok(format!(in alloc; "{done} {} {fate}", disk.calls())?)
+pub(crate) fn clear(reply: &mut Reply, question: &str) {
+    let mut disk = disk_of(reply, "", question, "");
+    reply.truth(cleared(&mut disk));
+    reply.say(" ");
+    reply.number(disk.calls());
+    reply.say(" ");
+    let place = super_of(reply, question);
+    reply.say(fate(&place, disk.bytes().get(4096..4137)));
 }
 
 pub(crate) const ROWS: &str = "
@@ -207,10 +218,13 @@ fn is_first<D: Device>(disk: &mut D) -> bool {
 }
 
 /// Whether turn 0 is written over zeros, by how many calls, whether it is `SUPER`, and whether it is read.
-pub(crate) fn first(alloc: Global) -> Result<String, Fail> {
-    let mut disk = disk_of(alloc, "zeros", "zeros", "")?;
-    let done = wrote(&mut disk, 0);
-    let calls = disk.calls();
-    let stands = disk.bytes().get(..41) == Some(SUPER.as_slice());
-    Ok(format!(in alloc; "{done} {calls} {stands} {}", is_first(&mut disk))?)
+pub(crate) fn first(reply: &mut Reply) {
+    let mut disk = disk_of(reply, "zeros", "zeros", "");
+    reply.truth(wrote(&mut disk, 0));
+    reply.say(" ");
+    reply.number(disk.calls());
+    reply.say(" ");
+    reply.truth(disk.bytes().get(..41) == Some(SUPER.as_slice()));
+    reply.say(" ");
+    reply.truth(is_first(&mut disk));
 }
