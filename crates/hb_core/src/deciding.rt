@@ -7,7 +7,7 @@ ghost use Rattle.hb_ops.specs.Files.{if_live};
 ghost use Rattle.hb_space.specs.Points.{IsPoint};
 ghost use Rattle.hb_steps.specs.Acting.{Decodes, NeedsNumber};
 ghost use Rattle.hb_steps.specs.Asking.{wanted_by};
-ghost use Rattle.hb_steps.specs.AskingDeciders.{AsksNumber, AsksPoint, AsksPoster, AsksSearcher, DecodesNow, GathersAt, HasPointRow, HasPosterRow, HasSearchRow, SplitLacksPage, MakesPageAt, WalksToSearch};
+ghost use Rattle.hb_steps.specs.AskingDeciders.{AsksNumber, AsksPoint, AsksPoster, AsksSearcher, DecodesNow, GathersAt, HasPointRow, HasPosterRow, HasSearchRow, IsSessionPut, SplitLacksPage, MakesPageAt, WalksToSearch};
 ghost use Rattle.hb_core.specs.CoreSeen.{core_seen, core_disk, ChangesBy};
 ghost use Rattle.hb_steps.specs.KeptFits.{class_for};
 ghost use Rattle.hb_steps.specs.Looking.{number_of_row, other_number, other_page};
@@ -164,10 +164,13 @@ impl<D: Device> Core<D> {
         if is_walk(&state) {
             return Ok(self.walk_to_point(state, id));
         }
+        if is_put(&state) {
+            return Ok(self.put_in_half(state, id));
+        }
         if lacks_page(&state, free) {
             return Ok(Next::answers(Reply::Full));
         }
-        self.part_or_put(state, id, free)
+        self.part(state, id, free)
     }
 
     /// What the walk of an insert, a delete or a lookup comes to at the page of this number, which is read where it lies.
@@ -182,8 +185,20 @@ impl<D: Device> Core<D> {
         }
     }
 
-    /// What the decider of splits and puts says of this activity.
-    fn part_or_put(
+    /// What a put into one of two halves comes to, where the half that stayed is the page of this number, which is read where it lies.
+    fn put_in_half(&self, state: Activity, id: u32) -> Next
+        requires puts { IsSessionPut state }
+        requires asks { (free : Option (ℕ × ℕ)) × AsksPoint (core_seen self.now).store state id free }
+        ensures { (place : ℕ) → HasPointRow (core_seen self.now).store state id place (placed place (deed_of state result)) }
+    {
+        match self.live(id) {
+            Some(view) => hb_point::put_in_half(state, &view),
+            None => unreachable!(),
+        }
+    }
+
+    /// What the decider of splits says of this activity.
+    fn part(
         &self,
         state: Activity,
         id: u32,
@@ -275,6 +290,13 @@ fn is_walk(activity: &Activity) -> bool
     ensures { IsTrue result ↔ IsSessionWalk activity.now }
 {
     matches!(activity, Activity::SessionWalk { .. })
+}
+
+/// Whether a session puts its record into one of the halves.
+fn is_put(activity: &Activity) -> bool
+    ensures { IsTrue result ↔ IsSessionPut activity.now }
+{
+    matches!(activity, Activity::SessionPut { .. })
 }
 
 /// Whether a session splits, and there is no page for the part that leaves.

@@ -1,5 +1,5 @@
 //! How a core does what its deciders say: latches, the queue, the order, and what becomes of the line in hand.
-ghost use Rattle.std.specs.Prelude.{◌≡◌, ℕ, ◌<◌, ◌≤◌, ◌^◌, ◌++◌, [], length, take, drop, Some, None, IsSome, IfSome, IfOk, IfErr, IsErr, OnOk, OnErr};
+ghost use Rattle.std.specs.Prelude.{◌≡◌, ℕ, ◌<◌, ◌≤◌, ◌^◌, ◌++◌, [], length, take, drop, Some, None, IsSome, IsSomeAnd, IfSome, IfOk, IfErr, IsErr, OnOk, OnErr};
 ghost use Rattle.std.specs.FinMap as map;
 ghost use Rattle.hb_latch.specs.Tables.{IsGrantable, latches_of, mode_at};
 ghost use Rattle.hb_space.specs.Actors.{IsActor};
@@ -10,6 +10,7 @@ ghost use Rattle.hb_activity.specs.Walks.{walk_held};
 ghost use Rattle.std.specs.Option.{option_and_then};
 ghost use Rattle.hb_ops.specs.Files.{if_live};
 ghost use Rattle.hb_store.specs.Held.{IsTied};
+ghost use Rattle.hb_store.specs.Making.{TakesMemory};
 ghost use Rattle.hb_view.specs.Views.{IsLive};
 ghost use Rattle.hb_store.specs.States.{StoreState};
 ghost use Rattle.hb_core.specs.declared.halts.Halt.TheVariants as halts;
@@ -62,7 +63,7 @@ impl<D: Device> Core<D> {
         ensures does { IfOk result (λ outcome. (state : _) → line ≡ number_of (hand_of state) →
             DoesDeed actor pins.now (placed (length (core_seen self.old).order) (deed_of state next)) outcome (core_seen self.old) (core_seen self.new)) }
         ensures files { IfOk result (λ outcome. KeepsFilesBy next.op (D.model (core_disk self.old)) (core_seen self.old).store (D.model (core_disk self.new)) (core_seen self.new).store) }
-        ensures why { IfErr result (λ halt. (halt ≡ halts.GivesUp drops.NoMemory) × IsSome next.op × (core_seen self.new ≡ core_seen self.old)) }
+        ensures why { IfErr result (λ halt. (halt ≡ halts.GivesUp drops.NoMemory) × IsSomeAnd next.op TakesMemory × (core_seen self.new ≡ core_seen self.old)) }
         ensures disk { core_disk self.new ≡ core_disk self.old }
     {
         let Next {
@@ -111,7 +112,7 @@ impl<D: Device> Core<D> {
         ensures stays { OnOk result (KeepsStaying op (core_seen self.old) (core_seen self.new).store) }
         ensures files { OnOk result (KeepsFilesBy op (D.model (core_disk self.old)) (core_seen self.old).store (D.model (core_disk self.new)) (core_seen self.new).store) }
         ensures same { OnErr result (core_seen self.new ≡ core_seen self.old) }
-        ensures cause { IsErr result → IsSome op }
+        ensures cause { IsErr result → IsSomeAnd op TakesMemory }
         ensures rest { ChangesBy (λ c. with_order_of_use (core_seen self.new).uses (with_store (core_seen self.new).store c)) self.old self.new }
     {
         match op {

@@ -1,7 +1,8 @@
 -- The parts of the decider together are the row that was asked for.
-use Rattle.std.proofs.Common.{◌≡◌, ◌⊎◌, inl, inr, ℕ, ◌<◌, List, [], ◌∷◌, Option, Some, refl, sym, ap, subst, ◌∙◌}
+use Rattle.std.proofs.Common.{◌≡◌, ◌⊎◌, ◌↔◌, inl, inr, ℕ, ◌<◌, Bool, IsTrue, List, [], ◌∷◌, Option, Some, refl, sym, ap, subst, ◌∙◌}
+use Rattle.std.proofs.lemmas.Bool.{cases_Bool, false≢true}
 use Rattle.hb_activity.proofs.Facts.GivenPages.{first_given, next_given}
-use Rattle.hb_activity.specs.Deciding.{deed_of, given_pages, given_sight, page_among}
+use Rattle.hb_activity.specs.Deciding.{NextIs, deed_of, given_pages, given_sight, page_among}
 use Rattle.hb_activity.specs.declared.activities.Activity.{Activity}
 use Rattle.hb_activity.specs.declared.activities.Activity.TheVariants as at
 use Rattle.hb_activity.specs.declared.deciding.Fate.TheVariants as fates
@@ -11,13 +12,14 @@ use Rattle.hb_frag.specs.Leaves.{DirectlyHolds}
 use Rattle.hb_frag.specs.Paths.{part_at}
 use Rattle.hb_frag.specs.Trees.{Tree}
 use Rattle.hb_frag.specs.declared.pages.LivePage.{LivePage}
+use Rattle.hb_frag.specs.declared.pages.Page.{Page}
 use Rattle.hb_frag.specs.declared.paths.Side.{Side}
 use Rattle.hb_layout.specs.declared.meta.Meta.{Meta}
 use Rattle.hb_ops.specs.Cutting.{reached}
 use Rattle.hb_ops.specs.declared.leaf_cuts.LeafCut.{LeafCut}
 use Rattle.hb_ops.specs.declared.operations.Op.TheVariants.{Extract, Put}
-use Rattle.hb_point.specs.Asks.{MayAsk, deed_for, line_with}
-use Rattle.hb_point.specs.Doing.{IsHalfFor, PutsBy}
+use Rattle.hb_point.specs.Asks.{InsertsInto, MayAsk, PutsInto, deed_for}
+use Rattle.hb_point.specs.Doing.{PutsBy}
 use Rattle.hb_point.specs.SessionRows.{PointRow}
 use Rattle.hb_point.specs.SplitRows.{PutsInHalf, SplitsOrFull}
 use Rattle.hb_set.specs.declared.commands.Command.{Command}
@@ -27,11 +29,8 @@ use Rattle.hb_set.specs.declared.scripts.Line.{Line}
 use Rattle.hb_space.specs.Boxes.{Area}
 use Rattle.hb_space.specs.declared.records.Record.{Record}
 use Rattle.hb_split.specs.Choosing.{IsChosen}
-
--- ---- a line that was taken apart
-
-pub puts_as : (line : Line) (command : Command) (source fresh : ℕ) (page : LivePage) (next : Next) → line.command ≡ command → PutsBy (line_with line.number line.session command) source fresh page next → PutsBy line source fresh page next
-puts_as line command source fresh page next is puts = subst (λ (c : Command). PutsBy (line_with line.number line.session c) source fresh page next) (sym is) puts
+use Rattle.hb_view.specs.Views.{IsLiveAnd}
+use Rattle.hb_point.proofs.ViewedRows.{so}
 
 -- ---- a split
 
@@ -49,10 +48,9 @@ splits_off meta line id held fresh free_after page path cuts part next given som
 
 -- ---- a put
 
-pub puts_half : (line : Line) (rec : Record) (source fresh half : ℕ) (page : LivePage) (next : Next) → line.command ≡ Insert rec → IsHalfFor page rec.key source fresh half →
-    next.then ≡ at.SessionAwait line.number replies.Done 0 → next.op ≡ Some (Put half rec) → next.jobs.items ≡ [] → next.fate ≡ fates.TakesEffect →
-    PutsBy line source fresh page next
-puts_half line rec source fresh half page next command chosen then_is op_is jobs_is fate_is = λ meta id first free halves.
+pub puts_half : (line : Line) (rec : Record) (source fresh half : ℕ) (here : Bool) (page : LivePage) (next : Next) → line.command ≡ Insert rec → IsTrue here ↔ DirectlyHolds page rec.key →
+    (IsTrue here → half ≡ source) → (¬ (IsTrue here) → half ≡ fresh) → NextIs next (at.SessionAwait line.number replies.Done 0) (Some (Put half rec)) [] fates.TakesEffect → PutsBy line source fresh page next
+puts_half line rec source fresh half here page next command test own_is else_is is = λ meta id first free halves.
     let same : halves.rec ≡ rec = cc (sym halves.command ∙ command) in
     let among = subst (λ (o : Option LivePage). page_among (given_pages (at.SessionPut line source fresh) id page o) half ≡ page_among ((id, page) ∷ (fresh, halves.other) ∷ []) half) (sym halves.half) refl in
     let puts : (there : LivePage) → (half ≡ source) ⊎ (half ≡ fresh) → page_among ((id, page) ∷ (fresh, halves.other) ∷ []) half ≡ Some there → DirectlyHolds there rec.key → PutsInHalf (given_sight meta (given_pages (at.SessionPut line source fresh) id page first) free) line source fresh (deed_for line next) = λ there either live holds. record {
@@ -63,14 +61,19 @@ puts_half line rec source fresh half page next command chosen then_is op_is jobs
       page = there;
       live = among ∙ live;
       holds = holds;
-      deed_is = λ i. deed_for line (record { then = then_is i; op = op_is i; jobs = record { items = jobs_is i }; fate = fate_is i });
+      deed_is = λ i. deed_for line (record { then = is.stands i; op = is.op i; jobs = record { items = is.jobs i }; fate = is.fate i });
     } in
-    elim chosen [
-      | inl own ↦ puts page (inl own.0) (ap (page_among ((id, page) ∷ (fresh, halves.other) ∷ [])) (own.0 ∙ sym halves.given) ∙ first_given id page ((fresh, halves.other) ∷ [])) own.1
-      | inr else ↦ puts halves.other (inr else.0)
-          (ap (page_among ((id, page) ∷ (fresh, halves.other) ∷ [])) else.0 ∙ next_given id fresh page ((fresh, halves.other) ∷ []) (λ e. halves.apart (sym halves.given ∙ e)) ∙ first_given fresh halves.other [])
+    elim (cases_Bool here) [
+      | inl yes ↦
+          let own = own_is yes in
+          puts page (inl own) (ap (page_among ((id, page) ∷ (fresh, halves.other) ∷ [])) (own ∙ sym halves.given) ∙ first_given id page ((fresh, halves.other) ∷ [])) (test.0 yes)
+      | inr no ↦
+          let away : ¬ (IsTrue here) = λ yes. false≢true (sym no ∙ yes) in
+          let else = else_is away in
+          puts halves.other (inr else)
+          (ap (page_among ((id, page) ∷ (fresh, halves.other) ∷ [])) else ∙ next_given id fresh page ((fresh, halves.other) ∷ []) (λ e. halves.apart (sym halves.given ∙ e)) ∙ first_given fresh halves.other [])
           (elim (subst (λ (r : Record). DirectlyHolds page r.key ⊎ DirectlyHolds halves.other r.key) same halves.one) [
-            | inl here ↦ absurd (else.1 here)
+            | inl held ↦ absurd (away (test.1 held))
             | inr there ↦ there
           ])
     ]
@@ -80,3 +83,12 @@ pub asked_put : (state : Activity) (meta : Meta) (free : Option (ℕ × ℕ)) (i
 asked_put state meta free id page first next line source fresh is asked puts =
     subst (λ (a : Activity). PointRow a (given_sight meta (given_pages a id page first) free) id page (deed_of a next)) (sym is)
     (puts meta id first free (subst (λ (a : Activity). MayAsk a meta free id page first) is asked))
+
+-- so does a put by a view
+pub asked_put_by_view : (v : Page) (state : Activity) (next : Next) (line : Line) (source fresh : ℕ) → state ≡ at.SessionPut line source fresh → IsLiveAnd v (λ page. PutsBy line source fresh page next) →
+    IsLiveAnd v (λ page. (meta : Meta) (free : Option (ℕ × ℕ)) (id : ℕ) (first : Option LivePage) → MayAsk state meta free id page first → PointRow state (given_sight meta (given_pages state id page first) free) id page (deed_of state next))
+asked_put_by_view v state next line source fresh is puts = so v (λ page. PutsBy line source fresh page next) _ (λ page by meta free id first asked. asked_put state meta free id page first next line source fresh is asked by) puts
+
+-- and the line of a session that puts inserts a record
+pub inserts_into : (v : Page) (state : Activity) (line : Line) (source fresh : ℕ) → state ≡ at.SessionPut line source fresh → IsLiveAnd v (PutsInto state) → IsLiveAnd v (λ page. InsertsInto line page)
+inserts_into v state line source fresh is asked = so v (PutsInto state) (λ page. InsertsInto line page) (λ page h. subst (λ (a : Activity). PutsInto a page) is h) asked

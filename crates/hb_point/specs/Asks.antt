@@ -1,6 +1,6 @@
 -- What the decider of a session's step on a point is given, and what it may rely on.
-use Rattle.std.specs.Prelude.{◌≡◌, ◌≢◌, ◌⊎◌, ℕ, ◌<◌, length, Option, Some, None}
-use Rattle.hb_frag.specs.Leaves.{DirectlyHolds, weight_of}
+use Rattle.std.specs.Prelude.{◌≡◌, ◌≢◌, ◌⊎◌, ℕ, ◌<◌, List, length, Option, Some, None}
+use Rattle.hb_frag.specs.Leaves.{DirectlyHolds, WellCut, weight_of}
 use Rattle.hb_frag.specs.declared.pages.LivePage.{LivePage}
 use Rattle.hb_layout.specs.declared.meta.Meta.{Meta}
 use Rattle.hb_ops.specs.Recording.{put_page}
@@ -23,6 +23,17 @@ WalksInside page (Insert rec) = Holds page.area rec.key
 WalksInside page (Delete point) = Holds page.area point
 WalksInside page (Lookup point) = Holds page.area point
 WalksInside page (Search area) = ⊥
+
+-- a page that can be looked into at the point, which has the attributes of its box
+pub record CanHold (page : LivePage) (p : List ℕ) : Type 0 where
+  pub well_cut : WellCut page
+  pub attributes : length p ≡ length page.area.lo
+
+-- the line inserts a record that the page can hold
+pub record InsertsInto (line : Line) (page : LivePage) : Type 0 where
+  pub rec : Record
+  pub command : line.command ≡ Insert rec
+  pub can : CanHold page rec.key
 
 -- The page that is to be split is the one given, and it has no record at the point of the insert and no room for it.
 pub record MustSplit (meta : Meta) (free : Option (ℕ × ℕ)) (line : Line) (held id : ℕ) (page : LivePage) : Type 0 where
@@ -55,6 +66,11 @@ MayAsk other meta free id page first = ⊥
 abbrev pub SplitsNow : Activity → Option (ℕ × ℕ) → Type 0
 SplitsNow (at.SessionSplit line held) (Some next) = Unit {0}
 SplitsNow activity free = ⊥
+
+-- A session puts, and what it puts is a record that the page can hold.
+abbrev pub PutsInto : Activity → LivePage → Type 0
+PutsInto (at.SessionPut line source fresh) page = InsertsInto line page
+PutsInto other page = ⊥
 
 -- the deed that an answer is for an actor with this line in hand
 abbrev pub deed_for : Line → Next → Deed

@@ -1,6 +1,6 @@
 -- What the parts of the decider say to each other.
-use Rattle.std.specs.Prelude.{◌≡◌, ◌⊎◌, ℕ, length, Option, Some, None, List}
-use Rattle.hb_frag.specs.Leaves.{DirectlyHolds, WellCut, leaf_at}
+use Rattle.std.specs.Prelude.{◌≡◌, ◌⊎◌, ℕ, Option, Some, None, List}
+use Rattle.hb_frag.specs.Leaves.{DirectlyHolds, leaf_at}
 use Rattle.hb_frag.specs.declared.pages.LivePage.{LivePage}
 use Rattle.hb_frag.specs.declared.pages.Page.{Page}
 use Rattle.hb_layout.specs.declared.meta.Meta.{Meta}
@@ -16,6 +16,8 @@ use Rattle.hb_frag.specs.declared.leaves.Leaf.TheVariants.{Records}
 use Rattle.hb_activity.specs.declared.deciding.Next.{Next}
 use Rattle.hb_ops.specs.Standing.{StandsNot, StandsThere}
 use Rattle.hb_view.specs.Views.{IsLiveAnd}
+use Rattle.hb_view.specs.declared.leaves.LeafView.{LeafView}
+use Rattle.hb_view.specs.declared.leaves.LeafView.TheVariants as views
 use Rattle.hb_point.specs.SessionRows.{DoesThere}
 use Rattle.hb_point.specs.SplitRows.{PutsInHalf}
 use Rattle.hb_ops.specs.Sound.{FitsFile}
@@ -31,17 +33,6 @@ pub record RecordsThere (page : LivePage) (p : List ℕ) : Type 0 where
 abbrev pub DoesBy : Meta → Line → ℕ → LivePage → Next → Type 0
 DoesBy meta line id page next = (pages : List (ℕ × LivePage)) (free : Option (ℕ × ℕ)) →
     DoesThere (given_sight meta pages free) line line.command id page (deed_for line next)
-
--- a page that can be looked into at the point, which has the attributes of its box
-pub record CanHold (page : LivePage) (p : List ℕ) : Type 0 where
-  pub well_cut : WellCut page
-  pub attributes : length p ≡ length page.area.lo
-
--- the line inserts a record that the page can hold
-pub record InsertsInto (line : Line) (page : LivePage) : Type 0 where
-  pub rec : Record
-  pub command : line.command ≡ Insert rec
-  pub can : CanHold page rec.key
 
 -- the page keeps the rules of a page alone, and its leaf at the point, which its box has, has records
 pub record HasLeafOfRecords (meta : Meta) (page : LivePage) (p : List ℕ) : Type 0 where
@@ -77,6 +68,10 @@ abbrev pub PutsBy : Line → ℕ → ℕ → LivePage → Next → Type 0
 PutsBy line source fresh page next = (meta : Meta) (id : ℕ) (first : Option LivePage) (free : Option (ℕ × ℕ)) → HasHalves meta line source fresh id page first →
     PutsInHalf (given_sight meta (given_pages (at.SessionPut line source fresh) id page first) free) line source fresh (deed_for line next)
 
--- The half is the page, where that directly holds the point, and else the other one.
-abbrev pub IsHalfFor : LivePage → List ℕ → ℕ → ℕ → ℕ → Type 0
-IsHalfFor page p source fresh half = ((half ≡ source) × DirectlyHolds page p) ⊎ ((half ≡ fresh) × (¬ (DirectlyHolds page p)))
+-- the line inserts a record
+abbrev pub InsertsSome : Line → Type 0
+InsertsSome line = (rec : Record) × (line.command ≡ Insert rec)
+
+-- a leaf isn't a sibling leaf
+abbrev pub IsNoSibling : LeafView → Type 0
+IsNoSibling leaf = (name : ℕ) → leaf ≡ views.Sibling name → ⊥

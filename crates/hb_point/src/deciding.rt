@@ -1,16 +1,21 @@
 //! What a session's step on a point comes to.
 
-ghost use Rattle.std.specs.Prelude.{IfOk, OnErr};
+ghost use Rattle.std.specs.Prelude.{ℕ, Option, IfOk, OnErr};
 ghost use Rattle.std.specs.Option.{option_copied};
 ghost use Rattle.hb_activity.specs.Deciding.{deed_of, given_pages, given_sight};
 ghost use Rattle.hb_activity.specs.Walks.{IsSessionWalk};
-ghost use Rattle.hb_point.specs.Asks.{MayAsk, SplitsNow};
+ghost use Rattle.hb_frag.specs.declared.pages.LivePage.{LivePage as OnePage};
+ghost use Rattle.hb_layout.specs.declared.meta.Meta.{Meta as Facts};
+ghost use Rattle.hb_point.specs.Asks.{MayAsk, PutsInto, SplitsNow};
 ghost use Rattle.hb_point.specs.SessionRows.{PointRow};
+ghost use Rattle.hb_view.specs.Views.{IsLiveAnd};
 
-use crate::halving::{put, split};
+use crate::halving::split;
+use crate::putting::{put, put_by_view};
 use hb_activity::{Activity, Latched, Next};
 use hb_frag::LivePage;
 use hb_space::NoMemory;
+use hb_view::PageView;
 use std::alloc::Global;
 
 /// What the step of a session comes to that splits a page, or puts its record into one of the halves. A walk's step is told
@@ -44,6 +49,23 @@ pub fn next(
             source,
             fresh,
         } => Ok(put(line, source, fresh, latched.page)),
+        _ => unreachable!(),
+    }
+}
+
+/// What the step of a session comes to that puts its record into one of the halves of a page. The half that stayed in its place
+/// is read from its bytes, so no memory is wanted. It is the row that `next` gives, whatever else that is given.
+pub fn put_in_half(state: Activity, view: &PageView<'_>) -> Next
+    requires asked { IsLiveAnd view.now (PutsInto state) }
+    ensures row { IsLiveAnd view.now (λ page. (meta : Facts) (free : Option (ℕ × ℕ)) (id : ℕ) (first : Option OnePage) → MayAsk state meta free id page first →
+        PointRow state (given_sight meta (given_pages state id page first) free) id page (deed_of state result)) }
+{
+    match state {
+        Activity::SessionPut {
+            line,
+            source,
+            fresh,
+        } => put_by_view(line, source, fresh, view),
         _ => unreachable!(),
     }
 }

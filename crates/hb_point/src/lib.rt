@@ -6,9 +6,9 @@
 //! (`Sight` of hb_activity), each with its condition and the deed that it is:
 //! `specs/SessionRows.antt`. hb_core joins them with the rows of the other actors.
 //!
-//! `descend` tells which row a walk's step does, from the bytes of the page that it latched, and takes no memory. `next` tells
-//! which one a split or a put does, from the pages that the step holds. Both touch nothing themselves. What they may be
-//! asked is in `specs/Asks.antt`.
+//! `descend` tells which row a walk's step does, from the bytes of the page that it latched, and takes no memory. `put_in_half`
+//! does so of a put. `next` tells which one a split or a put does, from the pages that the step holds. They touch nothing
+//! themselves. What they may be asked is in `specs/Asks.antt`.
 #![tactic(auto)]
 
 mod deciding;
@@ -16,6 +16,7 @@ mod descending;
 pub mod examples;
 mod halving;
 pub mod laws;
+mod putting;
 
-pub use deciding::next;
+pub use deciding::{next, put_in_half};
 pub use descending::descend;

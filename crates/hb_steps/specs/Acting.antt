@@ -1,5 +1,5 @@
 -- A step that may be done: it is done, given up, or meets a bad page.
-use Rattle.std.specs.Prelude.{◌≡◌, ◌⊎◌, ◌++◌, List, ℕ, ◌<◌, true, false, Bool, IsTrue, IsSome, Option, Some, None}
+use Rattle.std.specs.Prelude.{◌≡◌, ◌⊎◌, ◌++◌, List, ℕ, ◌<◌, true, false, Bool, IsTrue, IsSomeAnd, Option, Some, None}
 use Rattle.hb_ops.specs.declared.operations.Op.{Op}
 use Rattle.hb_ops.specs.declared.operations.Op.TheVariants as ops
 use Rattle.hb_frag.specs.declared.pages.LivePage.{LivePage}
@@ -25,6 +25,7 @@ use Rattle.hb_steps.specs.Performing.{Performs, latches_held}
 use Rattle.hb_steps.specs.Using.{CameFor, page_wanted, pages_of, use_number, use_wanted}
 use Rattle.hb_pool.specs.Frames.{Use}
 use Rattle.hb_store.specs.Held.{IsTied}
+use Rattle.hb_store.specs.Making.{TakesMemory}
 use Rattle.hb_steps.specs.Rows.{IsAtHand, Row}
 use Rattle.hb_poster.specs.PosterRows.{MayGrow}
 use Rattle.hb_store.specs.States.{StoreState, in_memory}
@@ -68,13 +69,13 @@ MayNeed m actor fetched id = IsWantedPage (wanted_by m actor) id ⊎ (NeedsNumbe
 abbrev pub LacksNeeded : Machine → ℕ → StoreState → Type 0
 LacksNeeded m actor fetched = (id : ℕ) × MayNeed m actor fetched id × (¬ (IsNoPage m.store.meta id)) × (in_memory fetched id ≡ None)
 
--- Or it is given up: a page that it needs couldn't be read; or memory was refused, for a page that is decoded or for what the row takes,
--- which takes some where it does an operation.
+-- Or it is given up: a page that it needs couldn't be read; or memory was refused, for a page that is decoded or for the row's operation,
+-- where that isn't one on records.
 abbrev pub GivesUpFor : DropWhy → Machine → ℕ → StoreState → Type 0
 GivesUpFor drops.ReadFault m actor fetched = LacksNeeded m actor fetched
 GivesUpFor drops.NoMemory m actor fetched =
     Decodes (wanted_by m actor) (with_disk fetched m.files m.clock m) (m.activity actor)
-    ⊎ ((deed : Deed) × Row (m.activity actor) (wanted_by m actor) (with_disk fetched m.files m.clock m) deed × IsSome deed.op)
+    ⊎ ((deed : Deed) × Row (m.activity actor) (wanted_by m actor) (with_disk fetched m.files m.clock m) deed × IsSomeAnd deed.op TakesMemory)
 
 pub record Abandons (m : Machine) (actor : ℕ) (outcome : Outcome) (new : Machine) : Type 0 where
   pub why : DropWhy

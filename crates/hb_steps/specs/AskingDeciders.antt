@@ -51,10 +51,14 @@ abbrev pub SplitLacksPage : Activity → Option (ℕ × ℕ) → Type 0
 SplitLacksPage (at.SessionSplit line held) None = Unit {0}
 SplitLacksPage activity free = ⊥
 
--- A session's step decodes pages: a split where a page is free, and a put into one of the halves.
+-- a session that puts its record into one of the halves
+abbrev pub IsSessionPut : Activity → Type 0
+IsSessionPut (at.SessionPut line source fresh) = Unit {0}
+IsSessionPut other = ⊥
+
+-- A session's step decodes pages where it is a split, and a page is free.
 abbrev pub DecodesNow : Activity → Option (ℕ × ℕ) → Type 0
 DecodesNow (at.SessionSplit line held) (Some next) = Unit {0}
-DecodesNow (at.SessionPut line source fresh) free = Unit {0}
 DecodesNow activity free = ⊥
 
 -- A session that walks for a search asks a decider of its own.

@@ -1,5 +1,5 @@
 -- Why a line is refused, and which line a step answers, as laws.
-use Rattle.std.specs.Prelude.{◌≡◌, ◌⊎◌, ℕ, IsTrue, IsSomeAnd}
+use Rattle.std.specs.Prelude.{◌≡◌, ◌⊎◌, ℕ, IsSomeAnd}
 use Rattle.hb_space.specs.declared.records.Record.{Record}
 use Rattle.hb_set.specs.declared.commands.Reply.{Reply}
 use Rattle.hb_set.specs.declared.commands.Reply.TheVariants as replies
@@ -17,7 +17,7 @@ use Rattle.hb_steps.specs.Fetching.{Brings}
 use Rattle.hb_steps.specs.Keeps.{LacksRoomFor}
 use Rattle.hb_steps.specs.KeptMachine.{MachineKeeps}
 use Rattle.hb_steps.specs.Machines.{Machine}
-use Rattle.hb_steps.specs.Steps.{StepsTo, may_change_file}
+use Rattle.hb_steps.specs.Steps.{StepsTo}
 
 -- A line is `full` where the page that is to be split lacks the point and room for its record, and no page is free.
 pub record SplitFindsNoPage (m : Machine) (actor number : ℕ) : Type 0 where
@@ -34,7 +34,7 @@ abbrev pub FullByCause : Type 0
 FullByCause = (m : Machine) (actor number : ℕ) (new : Machine) → MachineKeeps m → StepsTo m actor (outcomes.Answered number replies.Full) new → SplitFindsNoPage m actor number
 
 -- A line is `read fault` only where a page of the file that the step needs isn't in memory; `no memory` only for a page that the step
--- decodes, for what its row takes, or for the boxes of a search that begins.
+-- decodes, for its row's operation, where that isn't one on records, or for the boxes of a search that begins.
 pub record GaveUpFor (why : DropWhy) (m : Machine) (actor : ℕ) : Type 0 where
   pub fetched : StoreState
   pub brings : Brings m (MayNeed m actor fetched) fetched
@@ -49,19 +49,16 @@ ReadFaultByCause = (m : Machine) (actor number : ℕ) (new : Machine) → Machin
 abbrev pub NoMemoryByCause : Type 0
 NoMemoryByCause = (m : Machine) (actor number : ℕ) (new : Machine) → MachineKeeps m → StepsTo m actor (outcomes.Answered number replies.NoMemory) new → GaveUpFor drops.NoMemory m actor ⊎ BeginsSearch m actor
 
--- So a lookup is never answered `no memory`; and an insert or a delete only in a step whose row may give an operation.
-abbrev pub TakesItsOp : Machine → ℕ → Line → Type 0
-TakesItsOp m actor line = MatchCommand line.command
-  where
-    MatchCommand : Command → Type 0
-    MatchCommand (Lookup point) = ⊥
-    MatchCommand (Search area) = Unit {0}
-    MatchCommand (Insert rec) = IsTrue (may_change_file m actor)
-    MatchCommand (Delete point) = IsTrue (may_change_file m actor)
+-- So a lookup or a delete is never answered `no memory`; and an insert only in a step that splits a page.
+abbrev pub MayLackMemory : Machine → ℕ → Line → Command → Type 0
+MayLackMemory m actor line (Lookup point) = ⊥
+MayLackMemory m actor line (Delete point) = ⊥
+MayLackMemory m actor line (Search area) = Unit {0}
+MayLackMemory m actor line (Insert rec) = (held : ℕ) × (m.activity actor ≡ at.SessionSplit line held)
 
-abbrev pub LookupsTakeNoMemory : Type 0
-LookupsTakeNoMemory = (m : Machine) (actor number : ℕ) (new : Machine) → MachineKeeps m → StepsTo m actor (outcomes.Answered number replies.NoMemory) new →
-    IsSomeAnd (next_line actor m.answered m.lines) (λ line. (line.number ≡ number) × TakesItsOp m actor line)
+abbrev pub OnlySearchesAndSplitsTakeMemory : Type 0
+OnlySearchesAndSplitsTakeMemory = (m : Machine) (actor number : ℕ) (new : Machine) → MachineKeeps m → StepsTo m actor (outcomes.Answered number replies.NoMemory) new →
+    IsSomeAnd (next_line actor m.answered m.lines) (λ line. (line.number ≡ number) × MayLackMemory m actor line line.command)
 
 -- A line is answered by a step of its own session, and is that session's first line without an answer.
 abbrev pub AnswersFirstLine : Type 0

@@ -9,8 +9,8 @@ use Rattle.hb_steps.specs.Rows.{IsAtHand}
 use Rattle.hb_point.specs.SessionRows.{WantsBoxes}
 use Rattle.hb_search.specs.Searching.{GathersNow}
 
--- A step decodes pages, which takes memory: a search at a leaf of records, a split where a page is free, a put into one of the halves,
--- and what the workers do. A walk of an insert, a delete or a lookup reads its pages where they lie.
+-- A step decodes pages, which takes memory: a search at a leaf of records, a split where a page is free, and what the workers do. A walk
+-- of an insert, a delete or a lookup reads its pages where they lie, and so does a put into one of the halves.
 abbrev pub GathersThere : Option Wanted → Machine → Activity → Type 0
 GathersThere None m activity = ⊥
 GathersThere (Some wanted) m activity = (page : LivePage) × IsAtHand m activity wanted page × GathersNow activity page
@@ -18,7 +18,7 @@ GathersThere (Some wanted) m activity = (page : LivePage) × IsAtHand m activity
 abbrev pub Decodes : Option Wanted → Machine → Activity → Type 0
 Decodes wanted m (at.SessionWalk line held rest found) = WantsBoxes line.command × GathersThere wanted m (at.SessionWalk line held rest found)
 Decodes wanted m (at.SessionSplit line held) = m.store.meta.live < m.store.meta.pages
-Decodes wanted m (at.SessionPut line source fresh) = Unit {0}
+Decodes wanted m (at.SessionPut line source fresh) = ⊥
 Decodes wanted m at.SessionIdle = ⊥
 Decodes wanted m (at.SessionAwait number reply place) = ⊥
 Decodes wanted m at.PosterIdle = ⊥

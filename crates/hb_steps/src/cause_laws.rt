@@ -1,7 +1,7 @@
 //! Why a line is refused and why a job ends, and what a step says of lines and jobs. Each law is the
 //! contract of a function that does nothing: a caller learns it by the call.
 
-ghost use Rattle.hb_steps.specs.CauseLaws.{AnswersFirstLine, FullByCause, LookupsTakeNoMemory, NoMemoryByCause, ReadFaultByCause};
+ghost use Rattle.hb_steps.specs.CauseLaws.{AnswersFirstLine, FullByCause, NoMemoryByCause, OnlySearchesAndSplitsTakeMemory, ReadFaultByCause};
 ghost use Rattle.hb_steps.specs.JobLaws.{DropsByCause, JobsEndByCause, JobsLeaveToWorkers};
 
 /// A line is answered by a step of its own session, and is that session's first line without an answer.
@@ -11,18 +11,18 @@ pub fn sessions_answer_their_first_line()
 {}
 
 /// A line is `read fault` only where a page of the file that the step needs isn't in memory; and `no memory`
-/// only for a page that the step decodes, for what the step's row takes, or for the boxes of a search that
-/// begins. It is `full` only where the page that is to be split has no room and no page is free.
+/// only for a page that the step decodes, for an operation of the step's row that isn't one on records, or
+/// for the boxes of a search that begins. It is `full` only where the page that is to be split has no room and no page is free.
 pub fn lines_are_refused_by_cause()
     ensures fault { ReadFaultByCause }
     ensures memory { NoMemoryByCause }
     ensures full { FullByCause }
 {}
 
-/// A lookup is never answered `no memory`, since its walk takes none. An insert or a delete is so only in a
-/// step whose row may change the file.
-pub fn lookups_take_no_memory()
-    ensures { LookupsTakeNoMemory }
+/// A lookup or a delete is never answered `no memory`, since its walk takes none, and no more does what it
+/// does to the file. An insert is so only in a step that splits a page.
+pub fn only_searches_and_splits_take_memory()
+    ensures { OnlySearchesAndSplitsTakeMemory }
 {}
 
 /// A job is dropped only where a page of the file that the step needs isn't in memory, or for want of memory

@@ -85,6 +85,12 @@ abbrev pub record_op : ℕ → List ℕ → Option (List ℕ) → Op
 record_op page point (Some body) = Put page (record { key = point; body = body })
 record_op page point None = Del page point
 
+-- an operation for which a store takes memory: each but those on records
+abbrev pub TakesMemory : Op → Type 0
+TakesMemory (Put page rec) = ⊥
+TakesMemory (Del page point) = ⊥
+TakesMemory other = Unit {0}
+
 -- an operation that a store can do: its points have as many attributes as the file says, it is allowed on the pages in memory, and
 -- their boxes match
 pub record IsDoableHere (op : Op) (st : StoreState) : Type 0 where

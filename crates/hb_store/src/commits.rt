@@ -45,6 +45,7 @@ impl<D: Device> Store<D> {
         // a page that is dirty or pinned, and isn't changed, is there as it was
         ensures stays { OnOk result ((id : ℕ) → has_page id (change_here (seen_as self.old) op).pages ≡ false → StaysHere (uses_of self.old) id → in_memory (seen_as self.new) id ≡ in_memory (seen_as self.old) id) }
         ensures kept { OnErr result ((seen_as self.new ≡ seen_as self.old) × (uses_of self.new ≡ uses_of self.old)) }
+        ensures memory { OnErr result (TakesMemory op) }
         ensures disk { self.new.disk ≡ self.old.disk }
         ensures keeps { (durable : FileState) (later : List FileState) → StoreKeeps (D.model self.old.disk) (seen_as self.old) durable later →
             OnOk result (StoreKeeps (D.model self.new.disk) (seen_as self.new) durable (with_op durable later op)) }

@@ -49,7 +49,6 @@ module _ (d : DiskModel) (c : RunningCore) (m : Machine) (actor : ℕ) (free : O
   session_by (at.SessionSplit line held) None given is splits = absurd splits
   session_by (at.SessionSplit line held) (Some number) given is splits =
       subst (λ (a : Activity). Needs d c m actor free may has a (wanted_by m actor)) is (at_number d c m actor free may has number given).0
-  session_by (at.SessionPut line source fresh) o given is puts = tt
   session_by activity o given is none = absurd none
 
   pub session_decodes : (activity : Activity) → StandsAs c actor activity → DecodesNow activity free → Has (m.activity actor)

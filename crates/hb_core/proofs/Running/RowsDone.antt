@@ -5,6 +5,8 @@ use Rattle.std.specs.Option.{MatchOption}
 use Rattle.hb_activity.specs.declared.activities.Activity.TheVariants as at
 use Rattle.hb_activity.specs.declared.dropping.DropWhy.TheVariants as drops
 use Rattle.hb_steps.specs.Acting.{GivesUpFor}
+use Rattle.hb_store.specs.Making.{TakesMemory}
+use Rattle.std.specs.Option.{IsSomeAnd}
 use Rattle.hb_core.specs.Moving.{placed}
 use Rattle.hb_core.proofs.Running.Brought.{brings_wider}
 use Rattle.hb_core.proofs.Running.MayPerform.{brings_as_row, row_there}
@@ -145,6 +147,6 @@ module _ (d : DiskModel) (c : RunningCore) (m : Machine) (actor : ℕ) (free : O
           done.2,
         )
 
-    -- or memory is refused to its operation
-    pub op_refused : IsSome next.op → HaltsPinned m actor (GivesUp drops.NoMemory) d idled
+    -- or memory is refused to its operation, which isn't one on records
+    pub op_refused : IsSomeAnd next.op TakesMemory → HaltsPinned m actor (GivesUp drops.NoMemory) d idled
     op_refused some = refused_for (inr (deed, row_there d c m actor free may pages next row, some))

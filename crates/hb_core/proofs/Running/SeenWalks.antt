@@ -1,8 +1,10 @@
 -- What is said of a session's walk at a page that is read where its bytes lie is a row of it.
-use Rattle.hb_core.proofs.Running.Names.{◌≡◌, ◌⊎◌, inl, ℕ, List, Option, Some, None, refl, sym, subst, LivePage, Page, Live, Free, Meta, if_live, IsLiveAnd, Activity, Next, deed_of, given_pages, given_sight, Deed, PassesOn, goal_of, walk_point, PointRow, Gathers, SearchRow, StoreState, AsksPoint, AsksSearcher, HasPointRow, HasSearchRow, other_page, live_here}
+use Rattle.hb_core.proofs.Running.Names.{◌≡◌, ◌⊎◌, inl, ℕ, List, Option, Some, None, refl, sym, ◌∙◌, subst, same_Some, LivePage, Page, Live, Free, Meta, if_live, IsLiveAnd, Activity, Next, deed_of, given_pages, given_sight, Deed, PassesOn, goal_of, walk_point, PointRow, Gathers, SearchRow, StoreState, AsksPoint, AsksSearcher, HasPointRow, HasSearchRow, other_page, live_here}
 use Rattle.std.proofs.Common.{MatchOption}
 use Rattle.hb_activity.specs.declared.activities.Activity.TheVariants as at
 use Rattle.hb_activity.specs.Walks.{IsSessionWalk, walk_holding}
+use Rattle.hb_point.specs.Asks.{MayAsk, PutsInto}
+use Rattle.hb_steps.specs.AskingDeciders.{IsSessionPut}
 use Rattle.hb_core.proofs.Running.SeenRows.{no_number, point_said, search_said}
 use Rattle.hb_core.specs.Moving.{placed}
 
@@ -62,6 +64,37 @@ module _ (st : StoreState) (activity : Activity) (id : ℕ) (walks : IsSessionWa
     where
       by : (v : Page) → if_live (Some v) ≡ live_here st id → IsLiveAnd v (λ page. PointRow activity (given_sight meta (given_pages activity id page None) None) id page deed) → HasPointRow st activity id place (placed place deed)
       by (Live page) is row = point_said st activity id None id page None meta refl (sym is) (alone_by activity walks) is_meta asks deed row place
+      by (Free next) is row = absurd row
+
+-- ---- a put into one of two halves
+
+module _ (st : StoreState) (activity : Activity) (id : ℕ) (free : Option (ℕ × ℕ)) (puts : IsSessionPut activity) (asks : AsksPoint st activity id free) (v : Page) (view : if_live (Some v) ≡ live_here st id) where
+  -- the page that stayed can hold the record
+  pub put_asked : IsLiveAnd v (PutsInto activity)
+  put_asked = by v view
+    where
+      into : (a : Activity) → IsSessionPut a → MayAsk a st.meta free id asks.page (other_page st activity) → PutsInto a asks.page
+      into (at.SessionPut line source fresh) puts halves = record {
+        rec = halves.rec;
+        command = halves.command;
+        can = record { well_cut = asks.made.well_cut; attributes = halves.attributes ∙ sym asks.made.attributes };
+      }
+      into a puts asked = absurd puts
+
+      by : (v : Page) → if_live (Some v) ≡ live_here st id → IsLiveAnd v (PutsInto activity)
+      by (Live page) is = subst (PutsInto activity) (same_Some asks.page page (sym asks.live ∙ sym is)) (into activity puts asks.asked)
+      by (Free next) is = let no : ⊥ = cc (is ∙ asks.live) in absurd no
+
+  abbrev SaysRow : Deed → LivePage → Type 0
+  SaysRow deed page = (meta : Meta) (free : Option (ℕ × ℕ)) (own : ℕ) (first : Option LivePage) → MayAsk activity meta free own page first → PointRow activity (given_sight meta (given_pages activity own page first) free) own page deed
+
+  pub put_said : (deed : Deed) → IsLiveAnd v (SaysRow deed) → (place : ℕ) → HasPointRow st activity id place (placed place deed)
+  put_said deed row place = by v view row
+    where
+      by : (v : Page) → if_live (Some v) ≡ live_here st id → IsLiveAnd v (SaysRow deed) → HasPointRow st activity id place (placed place deed)
+      by (Live page) is row =
+          let asked = subst (λ (p : LivePage). MayAsk activity st.meta free id p (other_page st activity)) (same_Some asks.page page (sym asks.live ∙ sym is)) asks.asked in
+          point_said st activity id free id page (other_page st activity) st.meta refl (sym is) refl refl asks deed (row st.meta free id (other_page st activity) asked) place
       by (Free next) is row = absurd row
 
 pub point_back : (st : StoreState) (activity : Activity) (n id : ℕ) → id ≡ n → (deed : Deed) → ((place : ℕ) → HasPointRow st activity id place (placed place deed)) → (place : ℕ) → HasPointRow st activity n place (placed place deed)

@@ -3,7 +3,7 @@ use Rattle.std.proofs.lemmas.Result.{IfOk-weaker}
 use Rattle.hb_activity.specs.Deciding.{deed_of}
 use Rattle.hb_store.specs.Seen.{seen_as}
 use Rattle.hb_core.proofs.Running.SeenRows.{point_said}
-use Rattle.hb_core.proofs.state.Core.part_or_put.Goals as goal
+use Rattle.hb_core.proofs.state.Core.part.Goals as goal
 
 pub returns : goal.returns
 returns g c =
