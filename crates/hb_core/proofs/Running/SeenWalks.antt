@@ -77,7 +77,7 @@ module _ (st : StoreState) (activity : Activity) (id : ℕ) (free : Option (ℕ 
       into (at.SessionPut line source fresh) puts halves = record {
         rec = halves.rec;
         command = halves.command;
-        can = record { well_cut = asks.made.well_cut; attributes = halves.attributes ∙ sym asks.made.attributes };
+        can = record { well_cut = asks.made.well_cut; attributes = halves.attributes ∙ sym asks.made.fits.attributes };
       }
       into a puts asked = absurd puts
 
