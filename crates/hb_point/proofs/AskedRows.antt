@@ -13,13 +13,14 @@ use Rattle.hb_frag.specs.Paths.{part_at}
 use Rattle.hb_frag.specs.Trees.{Tree}
 use Rattle.hb_frag.specs.declared.pages.LivePage.{LivePage}
 use Rattle.hb_frag.specs.declared.pages.Page.{Page}
+use Rattle.hb_frag.specs.declared.pages.Page.TheVariants.{Live, Free}
 use Rattle.hb_frag.specs.declared.paths.Side.{Side}
 use Rattle.hb_layout.specs.declared.meta.Meta.{Meta}
 use Rattle.hb_ops.specs.Cutting.{reached}
 use Rattle.hb_ops.specs.declared.leaf_cuts.LeafCut.{LeafCut}
 use Rattle.hb_ops.specs.declared.operations.Op.TheVariants.{Extract, Put}
-use Rattle.hb_point.specs.Asks.{InsertsInto, MayAsk, PutsInto, deed_for}
-use Rattle.hb_point.specs.Doing.{PutsBy}
+use Rattle.hb_point.specs.Asks.{CanHold, InsertsInto, MayAsk, PutsInto, deed_for}
+use Rattle.hb_point.specs.Doing.{InsertsSome, PutsBy}
 use Rattle.hb_point.specs.SessionRows.{PointRow}
 use Rattle.hb_point.specs.SplitRows.{PutsInHalf, SplitsOrFull}
 use Rattle.hb_set.specs.declared.commands.Command.{Command}
@@ -30,7 +31,7 @@ use Rattle.hb_space.specs.Boxes.{Area}
 use Rattle.hb_space.specs.declared.records.Record.{Record}
 use Rattle.hb_split.specs.Choosing.{IsChosen}
 use Rattle.hb_view.specs.Views.{IsLiveAnd}
-use Rattle.hb_point.proofs.ViewedRows.{so}
+use Rattle.hb_point.proofs.ViewedRows.{so, so_both}
 
 -- ---- a split
 
@@ -64,11 +65,11 @@ puts_half line rec source fresh half here page next command test own_is else_is 
       deed_is = λ i. deed_for line (record { then = is.stands i; op = is.op i; jobs = record { items = is.jobs i }; fate = is.fate i });
     } in
     elim (cases_Bool here) [
-      | inl yes ↦
-          let own = own_is yes in
-          puts page (inl own) (ap (page_among ((id, page) ∷ (fresh, halves.other) ∷ [])) (own ∙ sym halves.given) ∙ first_given id page ((fresh, halves.other) ∷ [])) (test.0 yes)
-      | inr no ↦
-          let away : ¬ (IsTrue here) = λ yes. false≢true (sym no ∙ yes) in
+      | inl stays ↦
+          let own = own_is stays in
+          puts page (inl own) (ap (page_among ((id, page) ∷ (fresh, halves.other) ∷ [])) (own ∙ sym halves.given) ∙ first_given id page ((fresh, halves.other) ∷ [])) (test.0 stays)
+      | inr off ↦
+          let away : ¬ (IsTrue here) = λ stays. false≢true (sym off ∙ stays) in
           let else = else_is away in
           puts halves.other (inr else)
           (ap (page_among ((id, page) ∷ (fresh, halves.other) ∷ [])) else ∙ next_given id fresh page ((fresh, halves.other) ∷ []) (λ e. halves.apart (sym halves.given ∙ e)) ∙ first_given fresh halves.other [])
@@ -77,6 +78,20 @@ puts_half line rec source fresh half here page next command test own_is else_is 
             | inr there ↦ there
           ])
     ]
+
+-- the same of a page that is read from its bytes, by the point of the line's record
+pub inserts_some : (v : Page) (line : Line) → IsLiveAnd v (λ page. InsertsInto line page) → InsertsSome line
+inserts_some (Live page) line inserts = (inserts.rec, inserts.command)
+inserts_some (Free next) line inserts = absurd inserts
+
+pub puts_can_hold : (v : Page) (line : Line) (p : List ℕ) → IsLiveAnd v (λ page. InsertsInto line page) → ((rec : Record) → line.command ≡ Insert rec → p ≡ rec.key) → IsLiveAnd v (λ page. CanHold page p)
+puts_can_hold v line p inserts point = so v (λ page. InsertsInto line page) (λ page. CanHold page p) (λ page h. subst (CanHold page) (sym (point h.rec h.command)) h.can) inserts
+
+pub puts_by_view : (v : Page) (line : Line) (p : List ℕ) (source fresh half : ℕ) (here : Bool) (next : Next) → IsLiveAnd v (λ page. InsertsInto line page) → ((rec : Record) → line.command ≡ Insert rec → p ≡ rec.key) →
+    IsLiveAnd v (λ page. IsTrue here ↔ DirectlyHolds page p) → (IsTrue here → half ≡ source) → (¬ (IsTrue here) → half ≡ fresh) →
+    ((rec : Record) → line.command ≡ Insert rec → NextIs next (at.SessionAwait line.number replies.Done 0) (Some (Put half rec)) [] fates.TakesEffect) → IsLiveAnd v (λ page. PutsBy line source fresh page next)
+puts_by_view v line p source fresh half here next inserts point test own_is else_is is = so_both v (λ page. InsertsInto line page) (λ page. IsTrue here ↔ DirectlyHolds page p) (λ page. PutsBy line source fresh page next)
+    (λ page h test. puts_half line h.rec source fresh half here page next h.command (subst (λ (p : List ℕ). IsTrue here ↔ DirectlyHolds page p) (point h.rec h.command) test) own_is else_is (is h.rec h.command)) inserts test
 
 pub asked_put : (state : Activity) (meta : Meta) (free : Option (ℕ × ℕ)) (id : ℕ) (page : LivePage) (first : Option LivePage) (next : Next) (line : Line) (source fresh : ℕ) → state ≡ at.SessionPut line source fresh → MayAsk state meta free id page first → PutsBy line source fresh page next →
     PointRow state (given_sight meta (given_pages state id page first) free) id page (deed_of state next)

@@ -1,13 +1,14 @@
 //! The record that had no room is put into one of the halves of the page that was split: into the one that directly holds its
 //! point. Of the halves the one that stayed in its place is read, as a page or as its bytes.
 
-ghost use Rattle.std.specs.Prelude.{◌≡◌, ◌↔◌, [], Some, IsTrue};
+ghost use Rattle.std.specs.Prelude.{◌≡◌, ◌↔◌, [], length, Some, IsTrue};
 ghost use Rattle.hb_activity.specs.Deciding.{NextIs};
 ghost use Rattle.hb_activity.specs.declared.deciding.Fate.TheVariants.{TakesEffect};
 ghost use Rattle.hb_frag.specs.Leaves.{DirectlyHolds};
 ghost use Rattle.hb_point.specs.Asks.{CanHold, InsertsInto};
 ghost use Rattle.hb_point.specs.Doing.{InsertsSome, IsNoSibling, PutsBy};
 ghost use Rattle.hb_set.specs.declared.commands.Command.TheVariants as commands;
+ghost use Rattle.hb_space.specs.Boxes.{Holds, IsArea};
 ghost use Rattle.hb_space.specs.declared.records.Record.{Record as Entry};
 ghost use Rattle.hb_view.specs.Views.{IsLiveAnd};
 
@@ -67,7 +68,7 @@ fn put_into(line: Line, half: u32) -> Next
 /// The half that stayed in its place, where that holds the point, or else the one that left.
 fn half_of(here: bool, source: u32, fresh: u32) -> u32
     ensures here { IsTrue here → result ≡ source }
-    ensures else { ¬ (IsTrue here) → result ≡ fresh }
+    ensures away { ¬ (IsTrue here) → result ≡ fresh }
 {
     if here { source } else { fresh }
 }
@@ -86,11 +87,22 @@ fn holds_itself(view: &PageView<'_>, point: &Point) -> bool
     requires { IsLiveAnd view.now (λ page. CanHold page point.now) }
     ensures { IsLiveAnd view.now (λ page. IsTrue result ↔ DirectlyHolds page point.now) }
 {
-    if !view.area().holds(point) {
-        return false;
+    if is_in(&view.area(), point) {
+        let (leaf, _area) = view.leaf_at(point);
+        is_no_sibling(leaf)
+    } else {
+        false
     }
-    let (leaf, _area) = view.leaf_at(point);
-    is_no_sibling(leaf)
+}
+
+/// Whether the box has the point.
+fn is_in(area: &Area, point: &Point) -> bool
+    requires { length point.now ≡ length area.now.lo }
+    ensures area { IsArea area.now }
+    ensures held { IsTrue result ↔ Holds area.now point.now }
+{
+    let _least = area.lo();
+    area.holds(point)
 }
 
 /// Whether it isn't a sibling leaf.
