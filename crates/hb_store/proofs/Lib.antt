@@ -5,14 +5,17 @@ mod AreaTorn
 mod AfterForce
 mod Written
 mod Held
+mod PageBits
 mod Framed
 mod Filled
 mod Room
 mod Remembered
 mod Called
+mod Imaged
 mod Holding
 mod Committing
 mod Spliced
+mod Readied
 mod Putting
 mod Checked
 mod InLog

@@ -103,3 +103,7 @@ log-push log group mark is some room reserved marks = record {
   reserved = omega (arith, reserved, pending-push log.groups (record { bytes = group; mark = mark }));
   marks = all_pairs_push IsNoLater log.groups (record { bytes = group; mark = mark }) is.marks (λ k d h. marks k d h);
 }
+
+-- how long a group in three parts is
+pub length-parts : (head image operation : List ℕ) → length (head ++ image ++ operation) ≡ length head + length image + length operation
+length-parts head image operation = omega (arith, length-append (head ++ image) operation, length-append head image)
