@@ -1,5 +1,5 @@
-use Rattle.std.proofs.Common.{◌≡◌, ℕ, List, sym, subst, ap, ◌∙◌}
-use Rattle.hb_wal.specs.Log.{LogState, MayJoin, with_group}
+use Rattle.std.proofs.Common.{ℕ, List, sym, subst, ap, ◌∙◌}
+use Rattle.hb_wal.specs.Log.{MayJoin, with_group}
 use Rattle.hb_wal.proofs.Kept.{alone}
 use Rattle.hb_wal.proofs.log.Wal.append.Goals as goal
 
