@@ -2,7 +2,6 @@
 use Rattle.std.proofs.Common.{ℕ, List, ◌∷◌, ◌++◌, refl, sym, ap, ◌∙◌}
 use Rattle.std.proofs.lemmas.List.{append-nil}
 use Rattle.hb_lemmas.specs.Numbers.{big_endian}
-use Rattle.hb_frag.specs.declared.pages.Page.{Page}
 use Rattle.hb_log_codec.specs.Groups.{op_bytes, page_image_bytes}
 use Rattle.hb_log_codec.specs.RecordGroups.{GroupsHaveParts}
 use Rattle.hb_log_codec.proofs.GroupLaws.{page_bytes_spell}
