@@ -60,6 +60,10 @@ module _ (words : List ℕ) where
     | inr past ↦ above (64 * length words) q past ∙ sym (no_bit q past)
   ]
 
+  -- where there is no word it isn't
+  pub no_word : (q : ℕ) → ◌≡◌ {A = ℕ} 0 (get_or words (q / 64) 0) → false ≡ set.contains (numbers_in words) q
+  no_word q none = ap (λ (b : ℕ). b == 1) (sym (bit_at-zero (q % 64))) ∙ ap (λ (w : ℕ). bit_at w (q % 64) == 1) none ∙ sym (bit_tells q)
+
 -- two numbers of one word and one bit are the same
 same_place : (q id : ℕ) → q / 64 ≡ id / 64 → q % 64 ≡ id % 64 → q ≡ id
 same_place q id word bit = sym (div-add-mod' q 64) ∙ (λ i. word i * 64 + bit i) ∙ div-add-mod' id 64
@@ -93,7 +97,7 @@ module _ (words : List ℕ) (id word : ℕ) (within : id / 64 < length words) (h
 
 -- ---- no bit
 
-zero_at : (n i : ℕ) → get_or (replicate n 0) i 0 ≡ 0
+zero_at : (n i : ℕ) → ◌≡◌ {A = ℕ} (get_or (replicate n 0) i 0) 0
 zero_at zero i = refl
 zero_at (suc n) zero = refl
 zero_at (suc n) (suc i) = zero_at n i

@@ -1,5 +1,5 @@
 -- What is so of an operation that may be committed: the numbers of its pages have bits, and its group may join those that wait.
-use Rattle.std.proofs.Common.{◌≡◌, ℕ, ◌<◌, ◌≤◌, List, [], ◌∷◌, length, get_or, All, Option, sym, subst, ap, ◌∙◌, arith}
+use Rattle.std.proofs.Common.{◌≡◌, ℕ, ◌<◌, ◌≤◌, List, [], ◌∷◌, length, get_or, All, Option, Some, None, sym, subst, ap, ◌∙◌, arith}
 use Rattle.std.proofs.lemmas.List.Elements.{All-head}
 use Rattle.std.specs.FinSet as set
 use Rattle.std.specs.Ordering.{nat_cmp}
@@ -15,7 +15,7 @@ use Rattle.hb_store.specs.Calls.{IsAllowedHere, change_here, read_here}
 use Rattle.hb_store.specs.Committing.{MayCommit}
 use Rattle.hb_store.specs.Filling.{in_frame}
 use Rattle.hb_store.specs.Held.{StoreHeld}
-use Rattle.hb_store.specs.Making.{HasFittingParts, IsGoodChange, MakesGoodPages, MakesWell, OperationLaws, group_here, page_images_needed, record_op}
+use Rattle.hb_store.specs.Making.{HasFittingParts, IsGoodChange, MakesGoodPages, MakesWell, group_here, page_images_needed, record_op}
 use Rattle.hb_store.specs.States.{IsMemory, StoreState, in_memory, is_in_log}
 use Rattle.hb_store.proofs.Committing.{made_well}
 use Rattle.hb_store.proofs.Facts.Changed.{limits_of, reads_numbered, still_stands}
@@ -48,12 +48,10 @@ record_group pool s st pages in_log op page point body e =
     ap (λ (ids : List ℕ). let g : Logged = record { images = page_images_needed (in_frame pool) (set.contains s) ids; op = record_op page point body } in g) (sym (reads_one page point body))
     ∙ group_seen pool s st pages in_log (record_op page point body) ∙ ap (group_here st) (sym e)
 
-module _ (operations : OperationLaws) (held : StoreHeld) (is : IsMemory held.state) (op : Op) (mark : ℕ) (may : MayCommit op mark held) where
-  abbrev st : StoreState
-  st = held.state
-
-  pub parts_fit_here : HasFittingParts op
-  parts_fit_here = operations.fits (record { meta = st.meta; page = in_memory st }) op (limits_of st.turn st.meta is.stands) is.good may.can.allowed
+-- it has neither a path nor cuts
+pub record_parts : (page : ℕ) (point : List ℕ) (body : Option (List ℕ)) → HasFittingParts (record_op page point body)
+record_parts page point (Some body) = tt
+record_parts page point None = tt
 
 module _ (makes : MakesGoodPages) (held : StoreHeld) (is : IsMemory held.state) (op : Op) (mark : ℕ) (may : MayCommit op mark held) (fits : (k : ℕ) → OpHas k op → FitsOp k op) where
   abbrev now : StoreState

@@ -76,12 +76,13 @@ impl Memory {
     {
         let log = Wal::new(alloc, log_start(turn, &meta), meta.log)?;
         let pool = Pool::new(alloc)?;
+        let in_log = PageSet::new(alloc)?;
         Ok(Memory {
             turn,
             meta,
             log,
             pool,
-            in_log: PageSet::new(alloc)?,
+            in_log,
             stopped: false,
         })
     }

@@ -81,8 +81,8 @@ made c =
     commits_then m.turn m.meta m.log m.in_log m.stopped m.pool c.in_ok-changed.changed.meta c.append.new.self c.put_all.new.in_log c.put_all.new.pool c.args.self.now c.self.view_is c.args.op.now c.args.mark (change_made c) c.deref.result.now
     c.in_ok-changed.ensures.effect refl (puts_here c) c.self.invariant.pool (numbers_here c) (log_here c)
 
-pub invariant_of-self-2 : goal.invariant_of-self-2
-invariant_of-self-2 c =
+pub invariant_of-self : goal.invariant_of-self
+invariant_of-self c =
     let m = c.self.inside in
     record {
       memory = memory_after c.args.self.now.state (seen m.turn c.in_ok-changed.changed.meta c.append.new.self c.put_all.new.in_log m.stopped c.put_all.new.pool) c.args.op.now c.args.mark (well_made c) c.requires.can.allowed (made c);

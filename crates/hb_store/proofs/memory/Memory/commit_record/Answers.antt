@@ -12,20 +12,20 @@ use Rattle.hb_wal.specs.Log.{LogState, MayJoin, with_group}
 use Rattle.hb_store.specs.Calls.{Commits, change_here, numbers_changed, use_changed}
 use Rattle.hb_store.specs.Filling.{PutsAll, in_frame, numbers_of}
 use Rattle.hb_store.specs.Held.{StoreHeld}
-use Rattle.hb_store.specs.Making.{MakesWell, group_here, page_images_needed, record_op}
+use Rattle.hb_store.specs.Making.{HasFittingParts, MakesWell, group_here}
 use Rattle.hb_log_codec.specs.Groups.{Logged, group_bytes}
 use Rattle.hb_store.specs.Replay.{is_among}
 use Rattle.hb_store.specs.States.{IsMemory, in_memory}
 use Rattle.hb_store.proofs.Committed.{memory_after}
 use Rattle.hb_store.proofs.Committing.{commits_then, spelled_pages, stays_then}
-use Rattle.hb_store.proofs.Readied.{makes_well, may_join, parts_fit_here, read_has_bit, record_group}
+use Rattle.hb_store.proofs.Readied.{makes_well, may_join, read_has_bit, record_group, record_parts}
 use Rattle.hb_store.proofs.Framed.{page_seen}
 use Rattle.hb_store.proofs.Remembered.{put_spelled, seen}
 use Rattle.hb_store.proofs.Spliced.{MakesSpliced, can_splice, change_is, made, number_added, puts_one, reads_one}
 use Rattle.hb_store.proofs.memory.Memory.commit_record.Goals as goal
 
 pub op_fits-requires : goal.op_fits-requires
-op_fits-requires c = parts_fit_here c.what_is_made_can_be_written.ensures.operations c.args.self.now (subst (λ (h : StoreHeld). IsMemory h.state) c.self.view_is c.self.invariant.memory) c.args.op.now c.args.mark c.requires.may
+op_fits-requires c = subst HasFittingParts (sym c.requires.record_op) (record_parts c.args.page c.args.point.now (option_copied c.args.body))
 
 pub append_record-requires-clause-spelled : goal.append_record-requires-clause-spelled
 append_record-requires-clause-spelled c = c.self.invariant.spelled
