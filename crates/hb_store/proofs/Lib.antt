@@ -11,7 +11,6 @@ mod Filled
 mod Room
 mod Remembered
 mod Called
-mod Imaged
 mod Holding
 mod Committing
 mod Spliced

@@ -1,5 +1,5 @@
 -- What is so of an operation that may be committed: the numbers of its pages have bits, and its group may join those that wait.
-use Rattle.std.proofs.Common.{◌≡◌, ℕ, ◌<◌, ◌≤◌, List, [], ◌∷◌, length, get_or, All, Option, Some, None, sym, subst, ap, ◌∙◌, arith}
+use Rattle.std.proofs.Common.{◌≡◌, ℕ, ◌<◌, ◌≤◌, List, [], ◌∷◌, length, All, Option, Some, None, sym, subst, ap, ◌∙◌, arith}
 use Rattle.std.proofs.lemmas.List.Elements.{All-head}
 use Rattle.std.specs.FinSet as set
 use Rattle.std.specs.Ordering.{nat_cmp}
@@ -18,7 +18,7 @@ use Rattle.hb_store.specs.Held.{StoreHeld}
 use Rattle.hb_store.specs.Making.{HasFittingParts, IsGoodChange, MakesGoodPages, MakesWell, group_here, page_images_needed, record_op}
 use Rattle.hb_store.specs.States.{IsMemory, StoreState, in_memory, is_in_log}
 use Rattle.hb_store.proofs.Committing.{made_well}
-use Rattle.hb_store.proofs.Facts.Changed.{limits_of, reads_numbered, still_stands}
+use Rattle.hb_store.proofs.Facts.Changed.{reads_numbered, still_stands}
 use Rattle.hb_store.proofs.Facts.Grouped.{fits_group}
 use Rattle.hb_store.proofs.Held.{group_seen}
 use Rattle.hb_store.proofs.Spliced.{reads_one}

@@ -81,14 +81,7 @@ impl Memory {
 
     /// Does an operation on records: a body is put at a point of the page's bytes, or taken from it. The page's image is of the page
     /// before that, so the group is the first.
-    fn commit_record(
-        &mut self,
-        op: &Op,
-        mark: u32,
-        page: u32,
-        point: &Point,
-        body: Option<&Body>,
-    )
+    fn commit_record(&mut self, op: &Op, mark: u32, page: u32, point: &Point, body: Option<&Body>)
         requires may { MayCommit op.now mark self.old }
         requires record_op { op.now ≡ record_op page point.now (option_copied body) }
         ensures { CommitsHere op.now mark self.old self.new }
@@ -97,7 +90,15 @@ impl Memory {
         puts_and_deletes_are_splices();
         groups_are_short();
         op_fits(op);
-        append_record(&mut self.log, &self.pool, &self.in_log, page, point, body, mark);
+        append_record(
+            &mut self.log,
+            &self.pool,
+            &self.in_log,
+            page,
+            point,
+            body,
+            mark,
+        );
         self.in_log.add(page);
         splice_page(&mut self.pool, page, point, body);
     }

@@ -1,4 +1,3 @@
-use Rattle.std.proofs.Common.{ℕ}
 use Rattle.hb_store.proofs.PageBits.{zeros_empty}
 use Rattle.hb_store.proofs.page_sets.PageSet.new.Goals as goal
 
