@@ -5,4 +5,5 @@ pub mod OpLaws
 pub mod GroupLaws
 pub mod GroupReads
 pub mod Lengths
+pub mod PartLaws
 pub mod Facts

@@ -5,6 +5,7 @@ ghost use Rattle.std.specs.Prelude.{◌≡◌, ◌++◌, ◌≤◌, ◌<◌, ℕ
 ghost use Rattle.hb_space.specs.declared.form.TheConstants.{GROUP, KMAX};
 ghost use Rattle.hb_log_codec.specs.ExactFields.{ExactFields};
 ghost use Rattle.hb_log_codec.specs.Groups.{FitsGroup, Logged, SpellsGroups, group_bytes};
+ghost use Rattle.hb_log_codec.specs.RecordGroups.{GroupsHaveParts};
 
 use hb_page_codec::laws::{fields_are_read_exactly, spelling_law};
 
@@ -24,6 +25,12 @@ pub fn groups_are_short()
 {
     spelling_law();
 }
+
+/// A group with one page image, or none, is three parts that need not be put together to be written: its front, the bytes
+/// of the page, and the operation.
+pub fn groups_have_parts()
+    ensures { GroupsHaveParts }
+{}
 
 /// The fields that groups share with pages are read exactly.
 pub(crate) fn fields_are_exact()

@@ -25,9 +25,11 @@ mod fields;
 mod groups;
 pub mod laws;
 mod reading;
+mod record_groups;
 mod threads;
 mod writing;
 
 pub use groups::Group;
 pub use reading::{GroupsError, decode_all};
+pub use record_groups::{PART, encode_del, encode_front, encode_put};
 pub use writing::{encode, encode_op, encode_page_image};

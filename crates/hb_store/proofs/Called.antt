@@ -3,7 +3,8 @@ use Rattle.std.proofs.Common.{◌≡◌, ◌≢◌, ℕ, ◌<◌, ◌==◌, Bool
 use Rattle.std.specs.Prelude.{◌&&◌, IfSome, IsSome, IsSomeAnd, MatchOption}
 use denote.Bor.{Bor}
 use Rattle.std.specs.Option.{is_some, option_copied, option_map}
-use Rattle.std.specs.HashSet as bag
+use Rattle.std.specs.Ordering.{nat_cmp}
+use Rattle.std.specs.FinSet as set
 use Rattle.std.proofs.lemmas.Bool.{and_parts}
 use Rattle.hb_lemmas.proofs.Options.{has_value, some_and_at}
 use Rattle.hb_frag.specs.declared.pages.Page.{Page}
@@ -46,7 +47,7 @@ pub record IsKept (st : StoreState) (frames : List (Frame (List ℕ))) : Type 0 
   pub framed : IsPool frames
   pub spelled : AreSpelled frames
 
-module _ {T : Type 0} (turn : ℕ) (meta : Meta) (log : LogState) (s : bag.HashSet ℕ T) (stopped : Bool) (pool : List (Frame (List ℕ))) where
+module _ (turn : ℕ) (meta : Meta) (log : LogState) (s : set.FinSet nat_cmp) (stopped : Bool) (pool : List (Frame (List ℕ))) where
   abbrev Kept : List (Frame (List ℕ)) → Type 0
   Kept new = IsKept (seen turn meta log s stopped new) new
 

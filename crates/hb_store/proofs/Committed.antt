@@ -29,6 +29,7 @@ use Rattle.hb_store.specs.Parts.{ArePageImagesOf, IsDurable, IsInLog, IsInMemory
 use Rattle.hb_store.proofs.Facts.StoreLaws.{StoreKeeps-by}
 use Rattle.hb_store.specs.Calls.{Commits, IsAllowedHere, NoneComes, change_here, read_here, with_op}
 use Rattle.hb_store.specs.Making.{MakesWell, group_here}
+use Rattle.hb_store.specs.Committing.{CommitsHere}
 use Rattle.hb_ops.proofs.Facts.SetPages.{set_not, all_set, set_both}
 use Rattle.hb_store.proofs.Facts.StayingLaws.{Commits-there}
 use Rattle.hb_store.proofs.Facts.Changed.{reads_numbered, same_size, still_stands}
@@ -284,20 +285,15 @@ module _ (st new : StoreState) (op : Op) (mark : ℕ) (well : MakesWell op st) (
 
 -- ---- where the commit is Ok, and where it isn't
 
-pub kept_state : {X E : Type 0} (result : Result X E) (old new : StoreHeld) → OnErr result (new ≡ old) → OnErr result (new.state ≡ old.state)
-kept_state (Ok x) old new kept = tt
-kept_state (Err e) old new kept = ap (λ (h : StoreHeld). h.state) kept
+pub room_made : {E : Type 0} (result : Result (Unit {0}) E) (size : ℕ) (old new : StoreHeld) (op : Op) (mark : ℕ) → file_size old.state.meta ≤ size
+    → OnOk result (CommitsHere op mark old new) → OnErr result (new ≡ old) → file_size new.state.meta ≤ size
+room_made (Ok x) size old new op mark room here kept =
+    subst (λ (n : ℕ). n ≤ size) (sym (ap (λ (m : Meta). file_size m) here.commits.meta ∙ same_size old.state.meta (change_here old.state op).meta here.well.change.after.layout)) room
+room_made (Err e) size old new op mark room here kept = subst (λ (h : StoreHeld). file_size h.state.meta ≤ size) (sym kept) room
 
-pub room_made : {E : Type 0} (result : Result (Unit {0}) E) (size : ℕ) (st new : StoreState) (op : Op) (mark : ℕ) → file_size st.meta ≤ size
-    → OnOk result (Commits op mark st new) → OnOk result (MakesWell op st) → OnErr result (new ≡ st) → file_size new.meta ≤ size
-room_made (Ok x) size st new op mark room commits well kept =
-    subst (λ (n : ℕ). n ≤ size) (sym (ap (λ (m : Meta). file_size m) commits.meta ∙ same_size st.meta (change_here st op).meta well.change.after.layout)) room
-room_made (Err e) size st new op mark room commits well kept = subst (λ (s : StoreState). file_size s.meta ≤ size) (sym kept) room
-
-pub keeps_made : {E : Type 0} (result : Result (Unit {0}) E) (d : DiskModel) → IsDisk d → (st new : StoreState) (durable : FileState) (later : List FileState) (op : Op) (mark : ℕ) → st.stopped ≡ false → StoreKeeps d st durable later
-    → IsAllowedHere st op → IsLicensed (last_of durable later) op → OnOk result (Commits op mark st new)
-    → OnOk result (new.log.groups ≡ st.log.groups ++ record { bytes = group_bytes (group_here st op); mark = mark } ∷ []) → OnOk result (MakesWell op st)
-    → OnOk result (StoreKeeps d new durable (with_op durable later op))
-keeps_made (Ok x) d disk st new durable later op mark going keeps allowed licensed commits waits well =
-    keeps_after st new op mark well allowed commits d disk durable later going keeps licensed waits
-keeps_made (Err e) d disk st new durable later op mark going keeps allowed licensed commits waits well = tt
+pub keeps_made : {E : Type 0} (result : Result (Unit {0}) E) (d : DiskModel) → IsDisk d → (old new : StoreHeld) (durable : FileState) (later : List FileState) (op : Op) (mark : ℕ) → old.state.stopped ≡ false → StoreKeeps d old.state durable later
+    → IsAllowedHere old.state op → IsLicensed (last_of durable later) op → OnOk result (CommitsHere op mark old new)
+    → OnOk result (StoreKeeps d new.state durable (with_op durable later op))
+keeps_made (Ok x) d disk old new durable later op mark going keeps allowed licensed here =
+    keeps_after old.state new.state op mark here.well allowed here.commits d disk durable later going keeps licensed here.group
+keeps_made (Err e) d disk old new durable later op mark going keeps allowed licensed here = tt

@@ -1,7 +1,8 @@
 -- What an operation makes of a store, from what was put into frames and added to numbers.
 use Rattle.std.proofs.Common.{◌≡◌, ℕ, Bool, false, List, [], ◌∷◌, ◌++◌, get_or, All, sym, subst, ap, ◌∙◌}
-use Rattle.std.specs.Prelude.{◌||◌, nat_eq}
-use Rattle.std.specs.HashSet as bag
+use Rattle.std.specs.Prelude.{◌||◌}
+use Rattle.std.specs.Ordering.{nat_cmp}
+use Rattle.std.specs.FinSet as set
 use Rattle.hb_frag.specs.declared.pages.Page.{Page}
 use Rattle.hb_layout.specs.declared.meta.Meta.{Meta}
 use Rattle.hb_ops.specs.declared.operations.Op.{Op}
@@ -23,12 +24,11 @@ use Rattle.hb_store.proofs.Committed.{commits_here}
 use Rattle.hb_store.proofs.Facts.Changed.{good_change, limits_of}
 use Rattle.hb_store.proofs.Framed.{held_of, mark_seen, page_seen}
 use Rattle.hb_store.proofs.Facts.Grouped.{good_spelled}
-use Rattle.hb_store.proofs.Held.{set_seen}
 use Rattle.hb_store.proofs.Remembered.{none_comes, put_made, put_marks, seen, stays_same}
 
-module _ {S : Type 0} (turn : ℕ) (meta : Meta) (log : LogState) (s : bag.HashSet ℕ S) (stopped : Bool) (pool : List (Frame (List ℕ))) (new_meta : Meta) (new_log : LogState) (t : bag.HashSet ℕ S) (new_pool : List (Frame (List ℕ)))
+module _ (turn : ℕ) (meta : Meta) (log : LogState) (s : set.FinSet nat_cmp) (stopped : Bool) (pool : List (Frame (List ℕ))) (new_meta : Meta) (new_log : LogState) (t : set.FinSet nat_cmp) (new_pool : List (Frame (List ℕ)))
     (old : StoreHeld) (view : held_of turn meta log pool s stopped ≡ old) (op : Op) (mark : ℕ) (change : Change) (bytes : List ℕ) (effect : change ≡ change_here old.state op) (meta_is : new_meta ≡ change.meta)
-    (puts : PutsAll change.pages pool new_pool) (is : IsPool pool) (numbers : (q : ℕ) → bag.contains nat_eq t q ≡ (has_page q change.pages || (is_among q (reads_of op) || bag.contains nat_eq s q)))
+    (puts : PutsAll change.pages pool new_pool) (is : IsPool pool) (numbers : (q : ℕ) → set.contains t q ≡ (has_page q change.pages || (is_among q (reads_of op) || set.contains s q)))
     (log_is : new_log ≡ record { area = old.state.log.area; len = old.state.log.len; written = old.state.log.written; groups = old.state.log.groups ++ record { bytes = bytes; mark = mark } ∷ [] }) where
   pub commits_then : Commits op mark old.state (seen turn new_meta new_log t stopped new_pool)
   commits_then = commits_here op mark old.state (seen turn new_meta new_log t stopped new_pool) change bytes effect
@@ -37,7 +37,7 @@ module _ {S : Type 0} (turn : ℕ) (meta : Meta) (log : LogState) (s : bag.HashS
       meta_is
       (λ q on. page_seen new_pool q ∙ put_made change.pages pool new_pool puts is q (in_memory old.state) on)
       (λ q off. subst (λ (h : StoreHeld). NoneComes h.state (seen turn new_meta new_log t stopped new_pool) q) view (none_comes turn meta new_meta log new_log s t stopped pool new_pool q is (puts.others q off)))
-      (λ q. set_seen t q ∙ numbers q ∙ ap (λ (b : Bool). has_page q change.pages || (is_among q (reads_of op) || b)) (sym (set_seen s q) ∙ ap (λ (h : StoreHeld). is_in_log h.state q) view))
+      (λ q. numbers q ∙ ap (λ (h : StoreHeld). has_page q change.pages || (is_among q (reads_of op) || is_in_log h.state q)) view)
       (λ q. mark_seen new_pool q puts.pool ∙ put_marks change.pages pool new_pool puts is q ∙ ap (λ (b : Bool). has_page q change.pages || b) (sym (mark_seen pool q is) ∙ ap (λ (h : StoreHeld). is_dirty h.state q) view))
       log_is
 

@@ -8,7 +8,6 @@ use Rattle.std.specs.Ordering.{nat_cmp}
 use Rattle.std.specs.Cmp.{nat_cmp_total, nat_eq_equiv, unsigned_tied}
 use Rattle.std.specs.FinMap as finite
 use Rattle.std.specs.FinSet as set
-use Rattle.std.specs.HashSet as bag
 use Rattle.std.proofs.lemmas.List.Sums.{sum_by-cons}
 use Rattle.hb_lemmas.proofs.Maps.{get-from_list}
 use Rattle.hb_lemmas.proofs.Options.{none_mapped}
@@ -102,12 +101,11 @@ less_marks old new id pool now less =
 
 -- ---- what is held
 
-module _ {T : Type 0} where
-  abbrev pub held_of : ℕ → Meta → LogState → List (Frame (List ℕ)) → bag.HashSet ℕ T → Bool → StoreHeld
-  held_of turn meta log frames s stopped = record {
-    state = record { turn = turn; meta = meta; log = log; pages = finite.from_entries (pages_in frames); in_log = set.from_list s.keys; dirty = set.from_list (dirty_in frames); stopped = stopped };
-    uses = map use_of frames;
-  }
+abbrev pub held_of : ℕ → Meta → LogState → List (Frame (List ℕ)) → set.FinSet nat_cmp → Bool → StoreHeld
+held_of turn meta log frames s stopped = record {
+  state = record { turn = turn; meta = meta; log = log; pages = finite.from_entries (pages_in frames); in_log = s; dirty = set.from_list (dirty_in frames); stopped = stopped };
+  uses = map use_of frames;
+}
 
 some_mapped : {X Y : Type 0} (f : X → Y) (o : Option X) → is_some (option_map f o) ≡ is_some o
 some_mapped f None = refl

@@ -1,7 +1,8 @@
 -- A page that a fetch holds, from what is known of the store before.
 use Rattle.std.proofs.Common.{◌≡◌, ℕ, ◌<◌, Bool, false, List, Some, None, sym, subst, ap, ◌∙◌}
 use Rattle.std.specs.Prelude.{IsSomeAnd}
-use Rattle.std.specs.HashSet as bag
+use Rattle.std.specs.Ordering.{nat_cmp}
+use Rattle.std.specs.FinSet as set
 use Rattle.hb_lemmas.proofs.Options.{value_and}
 use Rattle.hb_frag.specs.declared.pages.Page.{Page}
 use Rattle.hb_frag.specs.Grammar.{SpellsPage}
@@ -32,7 +33,7 @@ pub record Holds (id : ℕ) (bytes : List ℕ) (old new : StoreHeld) : Type 0 wh
 good_value : (meta : Meta) (bytes : List ℕ) → IsSomeAnd (page_of_bytes bytes) (λ page. SpellsPage bytes page × IsGoodPage meta page) → (page : Page) × (page_of_bytes bytes ≡ Some page) × SpellsPage bytes page × IsGoodPage meta page
 good_value meta bytes good = let v = value_and (page_of_bytes bytes) (λ page. SpellsPage bytes page × IsGoodPage meta page) good in (v.0, v.1, v.2.0, v.2.1)
 
-module _ {T : Type 0} (turn : ℕ) (meta : Meta) (log : LogState) (s : bag.HashSet ℕ T) (stopped : Bool) (pool new : List (Frame (List ℕ))) (old : StoreHeld) (id : ℕ) (bytes : List ℕ) (view : held_of turn meta log pool s stopped ≡ old)
+module _ (turn : ℕ) (meta : Meta) (log : LogState) (s : set.FinSet nat_cmp) (stopped : Bool) (pool new : List (Frame (List ℕ))) (old : StoreHeld) (id : ℕ) (bytes : List ℕ) (view : held_of turn meta log pool s stopped ≡ old)
     (mem : IsMemory (seen turn meta log s stopped pool)) (is : IsPool pool) (each : AreSpelled pool) (e : new ≡ brought id bytes false pool)
     (absent : in_memory old.state id ≡ None) (place : 0 < places old.uses) (at : IsPageOf old.state.meta id) (good : IsSomeAnd (page_of_bytes bytes) (λ page. SpellsPage bytes page × IsGoodPage old.state.meta page)) where
   pub absent_frame : frame_of pool id ≡ None

@@ -5,6 +5,7 @@ mod AreaTorn
 mod AfterForce
 mod Written
 mod Held
+mod PageBits
 mod Framed
 mod Filled
 mod Room
@@ -13,6 +14,7 @@ mod Called
 mod Holding
 mod Committing
 mod Spliced
+mod Readied
 mod Putting
 mod Checked
 mod InLog

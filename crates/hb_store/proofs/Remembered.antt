@@ -4,7 +4,6 @@ use Rattle.std.specs.Prelude.{◌||◌, ◌&&◌, IfSome, IsSomeAnd}
 use Rattle.std.specs.Option.{is_some, option_map}
 use Rattle.std.specs.Ordering.{nat_cmp}
 use Rattle.std.specs.FinSet as set
-use Rattle.std.specs.HashSet as bag
 use Rattle.std.proofs.lemmas.Bool.{cases_eq, eq-eqb, or_parts}
 use Rattle.hb_lemmas.proofs.Options.{not_none}
 use Rattle.hb_frag.specs.declared.pages.Page.{Page}
@@ -83,7 +82,7 @@ module _ (pool new : List (Frame (List ℕ))) (id : ℕ) (change : Frame (List �
 
 -- ---- what is seen then
 
-module _ {T : Type 0} (turn : ℕ) (meta : Meta) (log : LogState) (s : bag.HashSet ℕ T) (stopped : Bool) where
+module _ (turn : ℕ) (meta : Meta) (log : LogState) (s : set.FinSet nat_cmp) (stopped : Bool) where
   abbrev pub seen : List (Frame (List ℕ)) → StoreState
   seen pool = (held_of turn meta log pool s stopped).state
 
@@ -94,7 +93,7 @@ module _ {T : Type 0} (turn : ℕ) (meta : Meta) (log : LogState) (s : bag.HashS
     meta = meta;
     log = log;
     pages = same_pages old new pages i;
-    in_log = set.from_list s.keys;
+    in_log = s;
     dirty = same_marks old new was is marks i;
     stopped = stopped;
   }
@@ -107,7 +106,7 @@ module _ {T : Type 0} (turn : ℕ) (meta : Meta) (log : LogState) (s : bag.HashS
     meta = meta;
     log = log;
     pages = same_pages old new pages i;
-    in_log = set.from_list s.keys;
+    in_log = s;
     dirty = less_marks old new id was is marks i;
     stopped = stopped;
   }
@@ -152,7 +151,7 @@ mark_after o n (inl same) on = ap mark_of (sym same) ∙ on
 mark_after o n (inr left) on = let never : false ≡ true = sym (ap mark_of left.0) ∙ on in cc never
 
 -- no page comes where a frame may leave alone
-pub none_comes : {T : Type 0} (turn : ℕ) (meta other_meta : Meta) (log other_log : LogState) (s t : bag.HashSet ℕ T) (stopped : Bool) (old new : List (Frame (List ℕ))) (q : ℕ) → IsPool old → MayGoOut (frame_of old q) (frame_of new q)
+pub none_comes : (turn : ℕ) (meta other_meta : Meta) (log other_log : LogState) (s t : set.FinSet nat_cmp) (stopped : Bool) (old new : List (Frame (List ℕ))) (q : ℕ) → IsPool old → MayGoOut (frame_of old q) (frame_of new q)
     → NoneComes (seen turn meta log s stopped old) (seen turn other_meta other_log t stopped new) q
 none_comes turn meta other_meta log other_log s t stopped old new q was leave = elim (page_left (frame_of old q) (frame_of new q) leave) [
   | inl same ↦ inl (page_seen new q ∙ same ∙ sym (page_seen old q))
@@ -165,7 +164,7 @@ stays_same old new q leave stays =
     let f = frame_and old q IsStaying stays in
     ap page_had (staying (frame_of old q) (frame_of new q) f.0 leave f.1 f.2) ∙ ap page_had (sym f.1)
 
-module _ {T : Type 0} (turn : ℕ) (meta : Meta) (log : LogState) (s : bag.HashSet ℕ T) (stopped : Bool) (pool : List (Frame (List ℕ))) (id : ℕ) (bytes : List ℕ)
+module _ (turn : ℕ) (meta : Meta) (log : LogState) (s : set.FinSet nat_cmp) (stopped : Bool) (pool : List (Frame (List ℕ))) (id : ℕ) (bytes : List ℕ)
     (is : IsPool pool) (absent : frame_of pool id ≡ None) (place : 0 < places pool) where
   abbrev now : List (Frame (List ℕ))
   now = brought id bytes false pool

@@ -1,5 +1,5 @@
 -- An operation on records: its page is changed in the bytes of its frame.
-use Rattle.std.proofs.Common.{◌≡◌, ℕ, zero, suc, ◌<◌, Bool, true, false, List, [], ◌∷◌, All, Option, Some, None, inl, refl, sym, ap, subst, ◌∙◌, arith}
+use Rattle.std.proofs.Common.{◌≡◌, ℕ, zero, suc, ◌<◌, ◌==◌, Bool, true, false, List, [], ◌∷◌, All, Option, Some, None, inl, refl, sym, ap, subst, ◌∙◌, arith}
 use Rattle.std.specs.Prelude.{◌||◌, IsSomeAnd}
 use Rattle.std.specs.Option.{option_map}
 use Rattle.std.proofs.lemmas.List.Elements.{All-head, All-tail}
@@ -140,6 +140,15 @@ twice : (a b : Bool) → (a || b) ≡ (a || (a || b))
 twice a b = elim a as (λ x. (x || b) ≡ (x || (x || b))) [ true ↦ refl | false ↦ refl ]
 
 -- its number is one of those that were read
-pub number_read : (q page : ℕ) (made : Page) (reads : List ℕ) (before : Bool) → reads ≡ page ∷ [] → (is_among q reads || before) ≡ (has_page q ((page, made) ∷ []) || (is_among q reads || before))
+number_read : (q page : ℕ) (made : Page) (reads : List ℕ) (before : Bool) → reads ≡ page ∷ [] → (is_among q reads || before) ≡ (has_page q ((page, made) ∷ []) || (is_among q reads || before))
 number_read q page made reads before is =
     subst (λ (ids : List ℕ). (is_among q ids || before) ≡ (has_page q ((page, made) ∷ []) || (is_among q ids || before))) (sym is) (twice (is_among q (page ∷ [])) before)
+
+alone : (a : Bool) → a ≡ (a || false)
+alone true = refl
+alone false = refl
+
+-- a number that was added is one of those that were read
+pub number_added : (q page : ℕ) (made : Page) (reads : List ℕ) (before after : Bool) → after ≡ ((q == page) || before) → reads ≡ page ∷ [] → after ≡ (has_page q ((page, made) ∷ []) || (is_among q reads || before))
+number_added q page made reads before after added is =
+    added ∙ ap (λ (b : Bool). b || before) (alone (q == page)) ∙ ap (λ (ids : List ℕ). is_among q ids || before) (sym is) ∙ number_read q page made reads before is

@@ -5,7 +5,6 @@ use Rattle.std.specs.Option.{option_map_or}
 use Rattle.std.specs.Ordering.{nat_cmp}
 use Rattle.std.specs.FinMap as finite
 use Rattle.std.specs.FinSet as set
-use Rattle.std.specs.HashSet as bag
 use Rattle.hb_lemmas.proofs.Options.{none_mapped}
 use Rattle.hb_layout.specs.Offsets.{log_start}
 use Rattle.hb_layout.specs.declared.meta.Meta.{Meta}
@@ -57,13 +56,13 @@ memory_switched st is clean = record {
 }
 
 -- what is seen then
-pub switched_seen : {T : Type 0} (turn next : ℕ) (meta : Meta) (log moved : LogState) (pool : List (Frame (List ℕ))) (s emptied : bag.HashSet ℕ T) (stopped : Bool) → next ≡ next_turn turn
-    → (area : ℕ) → area ≡ log_start next meta → moved ≡ record { area = area; len = log.len; written = 0; groups = [] } → emptied.keys ≡ []
+pub switched_seen : (turn next : ℕ) (meta : Meta) (log moved : LogState) (pool : List (Frame (List ℕ))) (s emptied : set.FinSet nat_cmp) (stopped : Bool) → next ≡ next_turn turn
+    → (area : ℕ) → area ≡ log_start next meta → moved ≡ record { area = area; len = log.len; written = 0; groups = [] } → emptied ≡ set.empty
     → ◌≡◌ {A = StoreHeld} (held_of next meta moved pool emptied stopped) (record { state = switched_state (held_of turn meta log pool s stopped).state; uses = map use_of pool })
 switched_seen turn next meta log moved pool s emptied stopped is area area_is moved_is none =
     let here : area ≡ log_start (next_turn turn) meta = area_is ∙ ap (λ (n : ℕ). log_start n meta) is in
     let log_is : moved ≡ (switched_state (held_of turn meta log pool s stopped).state).log = moved_is ∙ ap (λ (n : ℕ). let l : LogState = record { area = n; len = log.len; written = 0; groups = [] } in l) here in
     λ i. record {
-      state = record { turn = is i; meta = meta; log = log_is i; pages = finite.from_entries (pages_in pool); in_log = set.from_list (none i); dirty = set.from_list (dirty_in pool); stopped = stopped };
+      state = record { turn = is i; meta = meta; log = log_is i; pages = finite.from_entries (pages_in pool); in_log = none i; dirty = set.from_list (dirty_in pool); stopped = stopped };
       uses = map use_of pool;
     }

@@ -1,4 +1,4 @@
--- How what a store has in memory is held: pages as bytes in frames, and the numbers of those in the log in a hash set.
+-- How what a store has in memory is held: pages as bytes in frames, and the numbers of those in the log as bits.
 use Rattle.std.specs.Prelude.{ℕ, List, IfSome, map, filter}
 use Rattle.std.specs.FinMap as finite
 use Rattle.std.specs.FinSet as set
@@ -25,7 +25,7 @@ memory_seen m = record {
     meta = m.meta;
     log = m.log;
     pages = finite.from_entries (pages_in m.pool);
-    in_log = set.from_list m.in_log.keys;
+    in_log = m.in_log;
     dirty = set.from_list (dirty_in m.pool);
     stopped = m.stopped;
   };

@@ -2,6 +2,7 @@ pub mod Replay
 pub mod Opening
 pub mod States
 pub mod Held
+pub mod PageSets
 pub mod Inside
 pub mod Parts
 pub mod Keeps
@@ -13,6 +14,7 @@ pub mod Switching
 pub mod Turning
 pub mod WritingHome
 pub mod Making
+pub mod Committing
 pub mod Fetching
 pub mod Replaying
 pub mod LogReading

@@ -9,6 +9,7 @@ use Rattle.hb_ops.specs.declared.operations.Op.{Op}
 use Rattle.hb_ops.specs.declared.operations.Op.TheVariants.{Del, Extract, Post, Put}
 use Rattle.hb_ops.specs.Operations.{BoxesMatch, Change, IsAllowedOn, OpHas, change_of, reads_of}
 use Rattle.hb_log_codec.specs.Groups.{FitsGroup, FitsLeafCut, FitsOp, Logged}
+use Rattle.hb_view.specs.Spelled.{page_spelled}
 use Rattle.hb_store.specs.States.{AreGood, IsGoodPage, IsMemory, StoreState, in_memory, is_in_log}
 use Rattle.hb_store.specs.Calls.{CommitsBringNone, IsAllowedHere, change_here, read_here}
 use Rattle.hb_store.specs.Replay.{IsAllowedIn, Replayed, change_in, touched_read}
@@ -22,6 +23,11 @@ page_image_needed id (Some page) in_log = if in_log then [] else (id, page) ∷ 
 -- the page images that pages of these numbers need, in their order
 abbrev pub page_images_needed : (ℕ → Option Page) → (ℕ → Bool) → List ℕ → List (ℕ × Page)
 page_images_needed page_in in_log ids = flat_map (λ id. page_image_needed id (page_in id) (in_log id)) ids
+
+-- the image of the page of this number that bytes spell, where there are any
+abbrev pub image_of : ℕ → Option (List ℕ) → List (ℕ × Page)
+image_of id None = []
+image_of id (Some bytes) = (id, page_spelled bytes) ∷ []
 
 -- the group of an operation: the page images that its reads need, and the operation
 abbrev pub group_here : StoreState → Op → Logged

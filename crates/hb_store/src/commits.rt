@@ -5,18 +5,19 @@ ghost use Rattle.hb_ops.specs.Given.{given as live_given};
 ghost use Rattle.hb_ops.specs.Files.{FileState, if_live, last_of};
 ghost use Rattle.hb_ops.specs.Operations.{BoxesMatch, IsLicensed, OpHas, reads_of};
 ghost use Rattle.hb_log_codec.specs.Groups.{FitsGroup, group_bytes};
+ghost use Rattle.hb_store.specs.Committing.{CommitsHere, MayCommit};
 ghost use Rattle.hb_store.specs.Keeps.{StoreKeeps};
-ghost use Rattle.hb_store.specs.Making.{IsDoableHere, MakesWell, group_here, record_op};
+ghost use Rattle.hb_store.specs.Making.{IsDoableHere, TakesMemory, group_here, record_op};
 ghost use Rattle.hb_store.specs.Seen.{seen_as, uses_of};
 ghost use Rattle.hb_store.specs.Calls.{Commits, HasFrameFor, IsAllowedHere, IsReady, StaysHere, change_here, numbers_changed, read_here, use_changed, with_op};
 ghost use Rattle.hb_ops.specs.SetPages.{has_page};
 ghost use Rattle.hb_store.specs.States.{in_memory};
 ghost use Rattle.hb_wal.specs.Log.{IsMarkedTo};
 
-use crate::group_writing::group_for;
+use crate::group_writing::{append_record, group_for, op_fits};
 use crate::making::what_is_made_can_be_written;
 use crate::memory::Memory;
-use crate::pages::{NUMBERS, add_all, put_all, splice_page};
+use crate::pages::{add_all, put_all, splice_page};
 use crate::store::Store;
 use hb_disk::Device;
 use hb_frag::{LivePage, Page};
@@ -28,7 +29,7 @@ use std::alloc::{AllocError, Global};
 
 impl<D: Device> Store<D> {
     /// Does an operation in memory, and lets its group wait for a force. No device call. The pages that it reads are pinned or
-    /// dirty. For want of memory nothing changes.
+    /// dirty. For want of memory nothing changes; a put and a delete are never refused.
     pub fn commit(&mut self, op: Op, mark: u32) -> Result<(), NoMemory>
         requires running { (seen_as self.old).stopped ≡ false }
         requires ready { IsReady (seen_as self.old) }
@@ -55,83 +56,62 @@ impl<D: Device> Store<D> {
 }
 
 impl Memory {
-    /// Does an operation on the pages in memory, and lets its group wait. For want of memory nothing changes.
+    /// Does an operation on the pages in memory, and lets its group wait. For want of memory nothing changes; a put and a delete are
+    /// never refused.
     pub(crate) fn commit(&mut self, alloc: Global, op: &Op, mark: u32) -> Result<(), NoMemory>
-        requires ready { IsReady self.old.state }
-        requires points { OpHas self.old.state.meta.k op.now }
-        requires allowed { IsAllowedHere self.old.state op.now }
-        requires boxes { BoxesMatch op.now (read_here self.old.state op.now 0) (read_here self.old.state op.now 1) (read_here self.old.state op.now 2) }
-        requires place { HasFrameFor op.now self.old.state self.old.uses }
-        requires marks { All (IsMarkedTo mark) self.old.state.log.groups }
-        ensures commits { OnOk result (Commits op.now mark self.old.state self.new.state) }
-        ensures group { OnOk result (self.new.state.log.groups ≡ self.old.state.log.groups ++ record { bytes = group_bytes (group_here self.old.state op.now); mark = mark } ∷ []) }
-        ensures uses { OnOk result (self.new.uses ≡ use_changed (numbers_changed self.old.state op.now) self.old.uses) }
-        ensures stays { OnOk result ((id : ℕ) → has_page id (change_here self.old.state op.now).pages ≡ false → StaysHere self.old.uses id → in_memory self.new.state id ≡ in_memory self.old.state id) }
-        ensures well { OnOk result (MakesWell op.now self.old.state) }
+        requires { MayCommit op.now mark self.old }
+        ensures done { OnOk result (CommitsHere op.now mark self.old self.new) }
         ensures kept { OnErr result (self.new ≡ self.old) }
+        ensures memory { OnErr result (TakesMemory op.now) }
     {
         match op {
             Op::Put { page, rec } => {
-                self.commit_record(alloc, op, mark, *page, &rec.key, Some(&rec.body))
+                self.commit_record(op, mark, *page, &rec.key, Some(&rec.body));
+                Ok(())
             }
-            Op::Del { page, point } => self.commit_record(alloc, op, mark, *page, point, None),
-            _ => self.commit_pages(alloc, op, mark),
+            Op::Del { page, point } => {
+                self.commit_record(op, mark, *page, point, None);
+                Ok(())
+            }
+            Op::Extract { .. } | Op::Post { .. } | Op::Merge { .. } | Op::Grow { .. } => {
+                self.commit_pages(alloc, op, mark)
+            }
         }
     }
 
-    /// The same, of an operation on records: a body is put at a point of the page's bytes, or taken from it.
-    fn commit_record(
-        &mut self,
-        alloc: Global,
-        op: &Op,
-        mark: u32,
-        page: u32,
-        point: &Point,
-        body: Option<&Body>,
-    ) -> Result<(), NoMemory>
-        requires ready { IsReady self.old.state }
-        requires points { OpHas self.old.state.meta.k op.now }
-        requires allowed { IsAllowedHere self.old.state op.now }
-        requires boxes { BoxesMatch op.now (read_here self.old.state op.now 0) (read_here self.old.state op.now 1) (read_here self.old.state op.now 2) }
-        requires place { HasFrameFor op.now self.old.state self.old.uses }
-        requires marks { All (IsMarkedTo mark) self.old.state.log.groups }
+    /// Does an operation on records: a body is put at a point of the page's bytes, or taken from it. The page's image is of the page
+    /// before that, so the group is the first.
+    fn commit_record(&mut self, op: &Op, mark: u32, page: u32, point: &Point, body: Option<&Body>)
+        requires may { MayCommit op.now mark self.old }
         requires record_op { op.now ≡ record_op page point.now (option_copied body) }
-        ensures commits { OnOk result (Commits op.now mark self.old.state self.new.state) }
-        ensures group { OnOk result (self.new.state.log.groups ≡ self.old.state.log.groups ++ record { bytes = group_bytes (group_here self.old.state op.now); mark = mark } ∷ []) }
-        ensures uses { OnOk result (self.new.uses ≡ use_changed (numbers_changed self.old.state op.now) self.old.uses) }
-        ensures stays { OnOk result ((id : ℕ) → has_page id (change_here self.old.state op.now).pages ≡ false → StaysHere self.old.uses id → in_memory self.new.state id ≡ in_memory self.old.state id) }
-        ensures well { OnOk result (MakesWell op.now self.old.state) }
-        ensures kept { OnErr result (self.new ≡ self.old) }
+        ensures { CommitsHere op.now mark self.old self.new }
     {
         what_is_made_can_be_written();
         puts_and_deletes_are_splices();
-        let group = self.group(alloc, op)?;
-        self.in_log.reserve(NUMBERS)?;
-        self.log.append(&group, mark);
-        add_all(&mut self.in_log, &op.reads());
+        groups_are_short();
+        op_fits(op);
+        append_record(
+            &mut self.log,
+            &self.pool,
+            &self.in_log,
+            page,
+            point,
+            body,
+            mark,
+        );
+        self.in_log.add(page);
         splice_page(&mut self.pool, page, point, body);
-        Ok(())
     }
 
-    /// The same, of an operation that makes other pages.
+    /// Does an operation that makes other pages.
     fn commit_pages(&mut self, alloc: Global, op: &Op, mark: u32) -> Result<(), NoMemory>
-        requires ready { IsReady self.old.state }
-        requires points { OpHas self.old.state.meta.k op.now }
-        requires allowed { IsAllowedHere self.old.state op.now }
-        requires boxes { BoxesMatch op.now (read_here self.old.state op.now 0) (read_here self.old.state op.now 1) (read_here self.old.state op.now 2) }
-        requires place { HasFrameFor op.now self.old.state self.old.uses }
-        requires marks { All (IsMarkedTo mark) self.old.state.log.groups }
-        ensures commits { OnOk result (Commits op.now mark self.old.state self.new.state) }
-        ensures group { OnOk result (self.new.state.log.groups ≡ self.old.state.log.groups ++ record { bytes = group_bytes (group_here self.old.state op.now); mark = mark } ∷ []) }
-        ensures uses { OnOk result (self.new.uses ≡ use_changed (numbers_changed self.old.state op.now) self.old.uses) }
-        ensures stays { OnOk result ((id : ℕ) → has_page id (change_here self.old.state op.now).pages ≡ false → StaysHere self.old.uses id → in_memory self.new.state id ≡ in_memory self.old.state id) }
-        ensures well { OnOk result (MakesWell op.now self.old.state) }
+        requires { MayCommit op.now mark self.old }
+        ensures done { OnOk result (CommitsHere op.now mark self.old self.new) }
         ensures kept { OnErr result (self.new ≡ self.old) }
     {
         what_is_made_can_be_written();
         let changed = self.changed(alloc, op)?;
         let group = self.group(alloc, op)?;
-        self.in_log.reserve(NUMBERS)?;
         self.log.append(&group, mark);
         add_all(&mut self.in_log, &op.reads());
         self.meta = changed.meta;

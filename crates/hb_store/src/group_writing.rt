@@ -1,34 +1,38 @@
 //! Groups of the log to bytes.
-ghost use Rattle.std.specs.Prelude.{◌≡◌, ℕ, ◌≤◌, ◌++◌, length, flat_map, option_map, option_copied, IfOk, IfSome, OnOk, nat_eq};
-ghost use Rattle.std.specs.HashSet.{contains};
+ghost use Rattle.std.specs.Prelude.{◌≡◌, ℕ, ◌≤◌, [], ◌∷◌, ◌++◌, length, flat_map, option_map, option_copied, IfOk, IfSome, OnOk};
+ghost use Rattle.std.specs.FinSet as set;
 ghost use Rattle.hb_frag.specs.Grammar.{SpellsPage};
 ghost use Rattle.hb_ops.specs.Operations.{OpHas, reads_of};
-ghost use Rattle.hb_log_codec.specs.Groups.{FitsOp, group_bytes, page_image_bytes};
+ghost use Rattle.hb_log_codec.specs.Groups.{FitsOp, group_bytes, op_bytes, page_image_bytes};
 ghost use Rattle.hb_view.specs.Spelled.{page_spelled};
 ghost use Rattle.hb_store.specs.Filling.{in_frame};
 ghost use Rattle.hb_store.specs.Inside.{AreSpelled};
-ghost use Rattle.hb_store.specs.Making.{HasFittingParts, page_image_needed, page_images_needed};
+ghost use Rattle.hb_wal.specs.Log.{MayJoin, with_group};
+ghost use Rattle.hb_store.specs.Making.{HasFittingParts, image_of, page_image_needed, page_images_needed, record_op};
 
-use hb_log_codec::encode_op;
+use crate::page_sets::PageSet;
+use arrayvec::ArrayVec;
+use hb_log_codec::laws::groups_have_parts;
+use hb_log_codec::{PART, encode_del, encode_front, encode_op, encode_put};
 use hb_ops::Op;
 use hb_outside::give_u32;
 use hb_pool::Pool;
-use hb_space::NoMemory;
 use hb_space::form::PAGE;
+use hb_space::{Body, NoMemory, Point};
+use hb_wal::Wal;
 use std::alloc::Global;
-use std::collections::HashSet;
 
 /// The bytes of the group of an operation: the page images that its reads need, in their order, and the
 /// operation.
 pub(crate) fn group_for(
     alloc: Global,
     pool: &Pool,
-    in_log: &HashSet<u32>,
+    in_log: &PageSet,
     op: &Op,
 ) -> Result<Vec<u8>, NoMemory>
     requires spelled { AreSpelled pool.now }
     requires parts { HasFittingParts op.now }
-    ensures bytes { IfOk result (λ group. group.items ≡ group_bytes (record { images = page_images_needed (in_frame pool.now) (contains nat_eq in_log.now) (reads_of op.now); op = op.now })) }
+    ensures bytes { IfOk result (λ group. group.items ≡ group_bytes (record { images = page_images_needed (in_frame pool.now) (set.contains in_log.now) (reads_of op.now); op = op.now })) }
     ensures op { OnOk result ((k : ℕ) → OpHas k op.now → FitsOp k op.now) }
 {
     op_fits(op);
@@ -40,7 +44,7 @@ pub(crate) fn group_for(
 }
 
 /// An operation whose paths and cuts have their places in its spelling has its place there as a whole.
-fn op_fits(op: &Op)
+pub(crate) fn op_fits(op: &Op)
     requires { HasFittingParts op.now }
     ensures { (k : ℕ) → OpHas k op.now → FitsOp k op.now }
 {
@@ -78,17 +82,17 @@ fn op_fits(op: &Op)
 fn append_page_images(
     into: &mut Vec<u8>,
     pool: &Pool,
-    in_log: &HashSet<u32>,
+    in_log: &PageSet,
     ids: &[u32],
 ) -> Result<u8, NoMemory>
     requires few { length ids.now ≤ 3 }
     requires spelled { AreSpelled pool.now }
-    ensures count { IfOk result (λ count. count ≡ length (page_images_needed (in_frame pool.now) (contains nat_eq in_log.now) ids.now)) }
-    ensures bytes { OnOk result (into.new.items ≡ into.old.items ++ flat_map page_image_bytes (page_images_needed (in_frame pool.now) (contains nat_eq in_log.now) ids.now)) }
+    ensures count { IfOk result (λ count. count ≡ length (page_images_needed (in_frame pool.now) (set.contains in_log.now) ids.now)) }
+    ensures bytes { OnOk result (into.new.items ≡ into.old.items ++ flat_map page_image_bytes (page_images_needed (in_frame pool.now) (set.contains in_log.now) ids.now)) }
 {
     let mut count = 0;
     for id in ids {
-        count += append_due(into, *id, pool.get(*id), in_log.contains(id))?;
+        count += append_due(into, *id, pool.get(*id), in_log.has(*id))?;
     }
     Ok(count)
 }
@@ -123,4 +127,67 @@ fn append_page_image(into: &mut Vec<u8>, id: u32, bytes: &[u8; PAGE]) -> Result<
     give_u32(&mut number, 0, id);
     into.extend_from_slice(&number)?;
     into.extend_from_slice(bytes)
+}
+
+/// Lets the group wait of the operation that puts this body at a point of a page, or takes it from there. It goes in its parts from
+/// where they stand, so it takes no memory: the page's image, unless this turn's log has it, and the operation.
+pub(crate) fn append_record(
+    log: &mut Wal,
+    pool: &Pool,
+    in_log: &PageSet,
+    page: u32,
+    point: &Point,
+    body: Option<&Body>,
+    mark: u32,
+)
+    requires spelled { AreSpelled pool.now }
+    requires group { MayJoin (group_bytes (record { images = page_images_needed (in_frame pool.now) (set.contains in_log.now) (page ∷ []); op = record_op page point.now (option_copied body) })) mark log.old }
+    ensures { log.new ≡ with_group (group_bytes (record { images = page_images_needed (in_frame pool.now) (set.contains in_log.now) (page ∷ []); op = record_op page point.now (option_copied body.entry) })) mark log.old }
+{
+    let image = image_due(pool, in_log, page);
+    append_parts(log, image, page, point, body, mark);
+}
+
+/// The bytes of a page whose image an operation on it needs, unless this turn's log has it.
+fn image_due<'a>(pool: &'a Pool, in_log: &PageSet, page: u32) -> Option<&'a [u8; PAGE]>
+    requires { AreSpelled pool.now }
+    ensures due { image_of page (option_copied result) ≡ page_images_needed (in_frame pool.now) (set.contains in_log.now) (page ∷ []) }
+    ensures spelled { IfSome result (λ b. SpellsPage b.now (page_spelled b.now)) }
+{
+    if in_log.has(page) {
+        None
+    } else {
+        pool.get(page)
+    }
+}
+
+/// Lets the group wait that has this image of the page, or none.
+fn append_parts(
+    log: &mut Wal,
+    image: Option<&[u8; PAGE]>,
+    page: u32,
+    point: &Point,
+    body: Option<&Body>,
+    mark: u32,
+)
+    requires spelled { IfSome image (λ b. SpellsPage b.now (page_spelled b.now)) }
+    requires group { MayJoin (group_bytes (record { images = image_of page (option_copied image); op = record_op page point.now (option_copied body) })) mark log.old }
+    ensures { log.new ≡ with_group (group_bytes (record { images = image_of page (option_copied image.entry); op = record_op page point.now (option_copied body.entry) })) mark log.old }
+{
+    groups_have_parts();
+    let operation = op_part(page, point, body);
+    match image {
+        Some(bytes) => log.append_parts(&encode_front(Some(page)), bytes, &operation, mark),
+        None => log.append_parts(&encode_front(None), &[], &operation, mark),
+    }
+}
+
+/// The bytes of the operation.
+fn op_part(page: u32, point: &Point, body: Option<&Body>) -> ArrayVec<u8, PART>
+    ensures { result.items ≡ op_bytes (record_op page point.now (option_copied body.entry)) }
+{
+    match body {
+        Some(body) => encode_put(page, point, body),
+        None => encode_del(page, point),
+    }
 }

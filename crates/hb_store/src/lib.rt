@@ -28,7 +28,8 @@
 //! A page is brought into the log as a page image before an operation of this turn first reads it. So
 //! a replay needs no page from its place. A page that an operation makes needs no page image: the log of
 //! the turn makes it again. Which pages the log has or made is a set of its own, and no flag on a
-//! page, so that it doesn't depend on which pages are in memory.
+//! page, so that it doesn't depend on which pages are in memory. It has a bit for each number that a page
+//! may have, and its memory is taken at the opening: so a put or a delete takes none.
 #![tactic(auto)]
 
 mod allocating;
@@ -42,6 +43,7 @@ mod looks;
 mod making;
 mod memory;
 mod opening;
+mod page_sets;
 mod pages;
 mod reading;
 mod stops;

@@ -13,6 +13,7 @@ ghost use Rattle.hb_store.specs.Switching.{switched_state};
 ghost use Rattle.hb_super.specs.Superblocks.{next_turn};
 ghost use Rattle.hb_store.specs.Calls.{Fetched, HasPlaces, IsReady, StaysHere};
 
+use crate::page_sets::PageSet;
 use hb_layout::log_start;
 use hb_ops::Meta;
 use hb_pool::Pool;
@@ -21,7 +22,6 @@ use hb_space::form::{GROUP, PAGE, PENDING};
 use hb_view::PageView;
 use hb_wal::Wal;
 use std::alloc::Global;
-use std::collections::HashSet;
 use std::marker::Model;
 
 /// How many places a store has to have that takes an operation.
@@ -38,7 +38,7 @@ pub(crate) struct Memory {
     /// The pages that were brought here or made, as their bytes, in the order of use.
     pub(crate) pool: Pool,
     /// The numbers of the pages of which the log of this turn has a page image, or which it made.
-    pub(crate) in_log: HashSet<u32>,
+    pub(crate) in_log: PageSet,
     /// Whether a write, zero or sync failed.
     pub(crate) stopped: bool,
 }
@@ -76,12 +76,13 @@ impl Memory {
     {
         let log = Wal::new(alloc, log_start(turn, &meta), meta.log)?;
         let pool = Pool::new(alloc)?;
+        let in_log = PageSet::new(alloc)?;
         Ok(Memory {
             turn,
             meta,
             log,
             pool,
-            in_log: HashSet::new(alloc),
+            in_log,
             stopped: false,
         })
     }

@@ -1,6 +1,7 @@
 //! Changed pages put into their frames, and the numbers of those that the log has.
-ghost use Rattle.std.specs.Prelude.{◌≡◌, ℕ, ◌+◌, ◌<◌, ◌≤◌, ◌||◌, All, None, Some, length, map, nat_eq, option_copied};
-ghost use Rattle.std.specs.HashSet.{contains, spare as spare_of};
+ghost use Rattle.std.specs.Prelude.{◌≡◌, ℕ, ◌<◌, ◌≤◌, ◌||◌, All, None, Some, map, option_copied};
+ghost use Rattle.std.specs.FinSet as set;
+ghost use Rattle.hb_layout.specs.declared.limits.TheConstants.{PAGES_MAX};
 ghost use Rattle.hb_frag.specs.Grammar.{HasSpelling};
 ghost use Rattle.hb_pool.specs.Frames.{use_of};
 ghost use Rattle.hb_pool.specs.Pools.{IsPool, frame_of, places};
@@ -14,51 +15,35 @@ ghost use Rattle.hb_store.specs.Filling.{HasSpliceable, HaveRoom, PutsInto, Puts
 ghost use Rattle.hb_store.specs.Replay.{is_among};
 ghost use Rattle.hb_ops.specs.SetPages.{has_page};
 
+use crate::page_sets::PageSet;
 use hb_frag::Page;
 use hb_page_codec::encode;
 use hb_pool::Pool;
 use hb_space::form::PAGE;
 use hb_space::{Body, Point};
 use hb_view::splice;
-use std::collections::HashSet;
 
-/// How many numbers a commit adds at most: of three pages that it reads and three that it changes.
-pub(crate) const NUMBERS: usize = 6;
-
-/// Adds numbers. It takes no memory.
-pub(crate) fn add_all(in_log: &mut HashSet<u32>, ids: &[u32])
-    requires { length ids.now ≤ spare_of in_log.old }
-    ensures added { (q : ℕ) → contains nat_eq in_log.new q ≡ (is_among q ids.now || contains nat_eq in_log.old q) }
-    ensures room { spare_of in_log.old ≤ spare_of in_log.new + length ids.now }
+/// Adds numbers of pages.
+pub(crate) fn add_all(in_log: &mut PageSet, ids: &[u32])
+    requires { All (λ id. id ≤ PAGES_MAX) ids.now }
+    ensures { (q : ℕ) → set.contains in_log.new q ≡ (is_among q ids.now || set.contains in_log.old q) }
 {
     for id in ids {
-        add(in_log, *id);
-    }
-}
-
-/// Adds a number. It takes no memory.
-fn add(in_log: &mut HashSet<u32>, id: u32)
-    requires { 0 < spare_of in_log.old }
-    ensures added { (q : ℕ) → contains nat_eq in_log.new q ≡ (nat_eq q id || contains nat_eq in_log.old q) }
-    ensures room { spare_of in_log.old ≤ spare_of in_log.new + 1 }
-{
-    match in_log.insert(id) {
-        Ok(_) => {}
-        Err(_) => unreachable!(),
+        in_log.add(*id);
     }
 }
 
 /// PutsInto changed pages into frames under their numbers, in order, each dirty, and adds the numbers. It takes no memory.
-pub(crate) fn put_all(pool: &mut Pool, in_log: &mut HashSet<u32>, pages: &[(u32, Page)])
+pub(crate) fn put_all(pool: &mut Pool, in_log: &mut PageSet, pages: &[(u32, Page)])
     requires pool { IsPool pool.old }
     requires spelled { All (λ c. HasSpelling c.1) pages.now }
     requires room { HaveRoom (map use_of pool.old) pages.now }
-    requires numbers { length pages.now ≤ spare_of in_log.old }
+    requires numbers { All (λ c. c.0 ≤ PAGES_MAX) pages.now }
     ensures pages { PutsAll pages.now pool.old pool.new }
-    ensures in_log { (q : ℕ) → contains nat_eq in_log.new q ≡ (has_page q pages.now || contains nat_eq in_log.old q) }
+    ensures in_log { (q : ℕ) → set.contains in_log.new q ≡ (has_page q pages.now || set.contains in_log.old q) }
 {
     for (number, page) in pages {
-        add(in_log, *number);
+        in_log.add(*number);
         put(pool, *number, page);
     }
 }

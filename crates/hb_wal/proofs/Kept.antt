@@ -3,7 +3,7 @@ use Rattle.std.proofs.Common.{◌≡◌, ◌≢◌, ℕ, ◌+◌, ◌*◌, ◌<�
 use Rattle.std.specs.List.{All}
 use Rattle.std.proofs.Math.Dec.{eqb}
 use Rattle.std.proofs.lemmas.Bool.{eqb-false}
-use Rattle.std.proofs.lemmas.List.{take_at, drop_at, take-append-drop, nil_from_length}
+use Rattle.std.proofs.lemmas.List.{take_at, append-nil, drop_at, take-append-drop, nil_from_length}
 use Rattle.std.proofs.lemmas.List.Elements.{All-nil, All-push}
 use Rattle.std.proofs.lemmas.List.Quantifiers.{all_pairs_push}
 use Rattle.hb_lemmas.specs.Numbers.{big_endian}
@@ -103,3 +103,11 @@ log-push log group mark is some room reserved marks = record {
   reserved = omega (arith, reserved, pending-push log.groups (record { bytes = group; mark = mark }));
   marks = all_pairs_push IsNoLater log.groups (record { bytes = group; mark = mark }) is.marks (λ k d h. marks k d h);
 }
+
+-- how long a group in three parts is
+pub length-parts : (head image operation : List ℕ) → length (head ++ image ++ operation) ≡ length head + length image + length operation
+length-parts head image operation = omega (arith, length-append (head ++ image) operation, length-append head image)
+
+-- a group that comes as one part
+pub alone : (group : List ℕ) → group ++ [] ++ [] ≡ group
+alone group = append-nil (group ++ []) ∙ append-nil group

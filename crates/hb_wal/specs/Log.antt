@@ -1,5 +1,5 @@
 -- The log in memory: where its area is, how much of it is written, and the groups that wait.
-use Rattle.std.specs.Prelude.{ℕ, ◌+◌, ◌-◌, ◌<◌, ◌≤◌, List, [], ◌∷◌, length, flat_map, All, AllPairs}
+use Rattle.std.specs.Prelude.{ℕ, ◌+◌, ◌-◌, ◌<◌, ◌≤◌, List, [], ◌∷◌, ◌++◌, length, flat_map, All, AllPairs}
 use Rattle.hb_space.specs.declared.form.TheConstants.{PENDING}
 use Rattle.hb_wal.specs.Frames.{frames}
 
@@ -49,6 +49,17 @@ pub record IsLog (log : LogState) : Type 0 where
 abbrev pub mark_of : List Waiting → ℕ → ℕ
 mark_of [] now = now
 mark_of (first ∷ rest) now = first.mark
+
+-- A group may join those that wait: it isn't empty, it fits the area and the memory that was reserved, and no mark is later.
+pub record MayJoin (bytes : List ℕ) (mark : ℕ) (log : LogState) : Type 0 where
+  pub some : 0 < length bytes
+  pub room : length bytes ≤ room_of log
+  pub reserved : pending_bytes log.groups + length bytes ≤ PENDING
+  pub marks : All (IsMarkedTo mark) log.groups
+
+-- the log with one group more that waits, behind the others
+abbrev pub with_group : List ℕ → ℕ → LogState → LogState
+with_group bytes mark log = record { area = log.area; len = log.len; written = log.written; groups = log.groups ++ record { bytes = bytes; mark = mark } ∷ [] }
 
 -- The bytes of groups, one after the other.
 abbrev pub waiting_bytes : List Waiting → List ℕ

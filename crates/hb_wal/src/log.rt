@@ -1,7 +1,7 @@
-ghost use Rattle.std.specs.Prelude.{◌≡◌, ◌≢◌, ◌↔◌, ◌<◌, ◌≤◌, ◌+◌, ◌^◌, [], ◌∷◌, ◌++◌, length, All, IfOk, IsNone, IfSome};
+ghost use Rattle.std.specs.Prelude.{◌≡◌, ◌≢◌, ◌↔◌, ◌<◌, ◌≤◌, ◌+◌, ◌^◌, [], ◌++◌, length, All, IfOk, IsNone, IfSome, vec_capacity, vec_len};
 ghost use Rattle.hb_wal.specs.Frames.{frame_body};
 ghost use Rattle.hb_space.specs.declared.form.TheConstants.{PENDING};
-ghost use Rattle.hb_wal.specs.Log.{LogState, IsLog, IsMarkedTo, waiting_bytes, after_force, room_of, pending_bytes, mark_of};
+ghost use Rattle.hb_wal.specs.Log.{LogState, IsLog, IsMarkedTo, MayJoin, waiting_bytes, after_force, room_of, pending_bytes, mark_of, with_group};
 
 use crate::groups::Group;
 use hb_outside::give_u32;
@@ -97,21 +97,23 @@ impl Wal {
         requires room { length group.now ≤ room_of self.old }
         requires reserved { pending_bytes self.old.groups + length group.now ≤ PENDING }
         requires marks { All (IsMarkedTo mark) self.old.groups }
-        ensures { self.new ≡ record {
-          area = self.old.area;
-          len = self.old.len;
-          written = self.old.written;
-          groups = self.old.groups ++ record { bytes = group.now; mark = mark } ∷ [];
-        } }
+        ensures { self.new ≡ with_group group.now mark self.old }
     {
-        let added = Group {
-            len: group.len() as u32,
-            mark,
-        };
-        let len = self.pending() + added.len;
-        give_u32(&mut self.bytes, 0, len);
-        self.bytes.extend_from_slice(group).unwrap();
-        self.groups.push(added).unwrap();
+        self.append_parts(group, &[], &[], mark);
+    }
+
+    /// Lets a group wait that comes in three parts: they needn't stand in one place, and go from where they stand.
+    pub fn append_parts(&mut self, head: &[u8], image: &[u8], operation: &[u8], mark: u32)
+        requires { MayJoin (head.now ++ image.now ++ operation.now) mark self.old }
+        ensures { self.new ≡ with_group (head.now ++ image.now ++ operation.now) mark self.old }
+    {
+        let len = (head.len() + image.len() + operation.len()) as u32;
+        let all = self.pending() + len;
+        give_u32(&mut self.bytes, 0, all);
+        add(&mut self.bytes, head);
+        add(&mut self.bytes, image);
+        add(&mut self.bytes, operation);
+        self.groups.push(Group { len, mark }).unwrap();
     }
 
     /// Where the next frame begins on the disk.
@@ -153,4 +155,14 @@ impl Wal {
         self.area = area;
         self.written = 0;
     }
+}
+
+/// Adds bytes for which memory is reserved.
+fn add(bytes: &mut Vec<u8>, part: &[u8])
+    requires { vec_len bytes.old + length part.now ≤ vec_capacity bytes.old }
+    ensures items { bytes.new.items ≡ bytes.old.items ++ part.now }
+    ensures len { vec_len bytes.new ≡ vec_len bytes.old + length part.now }
+    ensures capacity { vec_capacity bytes.old ≤ vec_capacity bytes.new }
+{
+    bytes.extend_from_slice(part).unwrap();
 }

@@ -43,10 +43,6 @@ among_all Q (id ∷ rest) q all is = elim (or_cases (q == id) (is_among q rest) 
   | inr later ↦ among_all Q rest q (All-tail Q id rest all) later
 ]
 
-pub or_cond : (a b : Bool) → cond a true b ≡ (a || b)
-or_cond true b = refl
-or_cond false b = refl
-
 -- one number added, of those that are left
 pub add_next : (q id : ℕ) (rest : List ℕ) (before after : Bool) → after ≡ (nat_eq q id || before) → (is_among q rest || after) ≡ (is_among q (id ∷ rest) || before)
 add_next q id rest before after is =

@@ -1,6 +1,5 @@
-use Rattle.std.proofs.Common.{◌<◌, length, arith}
-use Rattle.std.specs.Prelude.{nat_eq}
-use Rattle.std.specs.HashSet.{contains}
+use Rattle.std.proofs.Common.{◌<◌, length}
+use Rattle.std.specs.FinSet as set
 use Rattle.hb_store.proofs.Putting.{added_next, place_next, puts_next, room_next}
 use Rattle.hb_store.proofs.pages.put_all.Goals as goal
 
@@ -15,6 +14,5 @@ loop-number-preserved c =
     record {
       puts = puts_next pages i c.loop-number-item.result _ lt c.loop-number-item.is c.args.pool.now c.loop-number.pool c.put.new.pool c.loop-number.invariant.puts c.put.ensures;
       room = room_next pages i c.loop-number-item.result _ lt c.loop-number-item.is c.loop-number.pool c.put.new.pool c.loop-number.invariant.puts.pool c.loop-number.invariant.room c.put.ensures;
-      numbers = omega (arith, c.loop-number.invariant.numbers, c.add.ensures.room);
-      added = λ q. added_next pages i c.loop-number-item.result _ lt c.loop-number-item.is q (contains nat_eq c.add.new.in_log q) (contains nat_eq c.loop-number.in_log q) (contains nat_eq c.args.in_log.now q) (c.add.ensures.added q) (c.loop-number.invariant.added q);
+      added = λ q. added_next pages i c.loop-number-item.result _ lt c.loop-number-item.is q (set.contains c.add.new.self q) (set.contains c.loop-number.in_log q) (set.contains c.args.in_log.now q) (c.add.ensures q) (c.loop-number.invariant.added q);
     }

@@ -1,6 +1,6 @@
-use Rattle.std.proofs.Common.{◌≡◌, ℕ, ◌+◌, ◌≤◌, drop, length, map, take}
-use Rattle.std.specs.Prelude.{◌||◌, nat_eq}
-use Rattle.std.specs.HashSet.{contains, spare}
+use Rattle.std.proofs.Common.{◌≡◌, ℕ, drop, map, take}
+use Rattle.std.specs.Prelude.{◌||◌}
+use Rattle.std.specs.FinSet as set
 use Rattle.hb_pool.specs.Frames.{use_of}
 use Rattle.hb_store.specs.Filling.{HaveRoom, PutsAll}
 use Rattle.hb_ops.specs.SetPages.{has_page}
@@ -11,6 +11,5 @@ abbrev pub invariant-loop-number : goal.invariant-loop-number
 invariant-loop-number l = record {
   puts : PutsAll (take l.number-index l.pages) l.fn.pool l.pool;
   room : HaveRoom (map use_of l.pool) (drop l.number-index l.pages);
-  numbers : length l.pages ≤ spare l.in_log + l.number-index;
-  added : (q : ℕ) → contains nat_eq l.in_log q ≡ (has_page q (take l.number-index l.pages) || contains nat_eq l.fn.in_log q);
+  added : (q : ℕ) → set.contains l.in_log q ≡ (has_page q (take l.number-index l.pages) || set.contains l.fn.in_log q);
 }

@@ -12,7 +12,7 @@ use Rattle.hb_store.proofs.memory.Memory.new.Goals as goal
 pub invariant_of-result : goal.invariant_of-result
 invariant_of-result c =
     let log : c.in_ok-log.log ≡ (new_state c.args.turn c.args.meta).log = c.in_ok-log.ensures ∙ ap (λ (n : ℕ). let l : LogState = record { area = n; len = c.args.meta.log; written = 0; groups = [] } in l) c.log_start.ensures in
-    let same = nothing_seen c.args.turn c.args.meta c.in_ok-log.log c.in_ok-pool.pool c.new-3.result log c.in_ok-pool.ensures c.new-3.ensures.empty in
+    let same = nothing_seen c.args.turn c.args.meta c.in_ok-log.log c.in_ok-pool.pool c.in_ok-in_log.in_log log c.in_ok-pool.ensures c.in_ok-in_log.ensures in
     record {
       memory = subst (λ (h : StoreHeld). IsMemory h.state) (sym same) (new_memory c.args.turn c.args.meta c.requires.stands);
       pool = subst IsPool (sym c.in_ok-pool.ensures) empty_pool;
@@ -22,4 +22,4 @@ invariant_of-result c =
 pub returns : goal.returns
 returns c =
     let log : c.in_ok-log.log ≡ (new_state c.args.turn c.args.meta).log = c.in_ok-log.ensures ∙ ap (λ (n : ℕ). let l : LogState = record { area = n; len = c.args.meta.log; written = 0; groups = [] } in l) c.log_start.ensures in
-    nothing_seen c.args.turn c.args.meta c.in_ok-log.log c.in_ok-pool.pool c.new-3.result log c.in_ok-pool.ensures c.new-3.ensures.empty
+    nothing_seen c.args.turn c.args.meta c.in_ok-log.log c.in_ok-pool.pool c.in_ok-in_log.in_log log c.in_ok-pool.ensures c.in_ok-in_log.ensures
