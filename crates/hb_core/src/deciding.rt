@@ -1,5 +1,5 @@
 //! What a step asks the deciders. A page is decoded where its decider reads more of it than its bytes tell, which takes memory.
-ghost use Rattle.std.specs.Prelude.{◌≡◌, ◌↔◌, ℕ, Some, None, IsTrue, IsSome, IfOk, IfErr, IfSome, OnErr, length};
+ghost use Rattle.std.specs.Prelude.{◌≡◌, ◌↔◌, ℕ, Option, Some, None, IsTrue, IsSome, IfOk, IfErr, IfSome, OnErr, length};
 ghost use Rattle.hb_activity.specs.Deciding.{deed_of};
 ghost use Rattle.hb_activity.specs.Classes.{idle_of};
 ghost use Rattle.hb_activity.specs.Walks.{IsSessionWalk, walk_point};
