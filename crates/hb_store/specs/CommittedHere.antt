@@ -11,7 +11,7 @@ use Rattle.hb_store.specs.States.{in_memory}
 
 -- An operation may be committed: the store is ready, can do it, and has a place for the page that it makes; and no group
 -- that waits has a later mark.
-pub record MayCommit (op : Op) (mark : ℕ) (held : StoreHeld) : Type 0 where
+pub record CanCommit (op : Op) (mark : ℕ) (held : StoreHeld) : Type 0 where
   pub ready : IsReady held.state
   pub can : IsDoableHere op held.state
   pub place : HasFrameFor op held.state held.uses
@@ -26,4 +26,5 @@ pub record CommitsHere (op : Op) (mark : ℕ) (old new : StoreHeld) : Type 0 whe
   pub uses : new.uses ≡ use_changed (numbers_changed old.state op) old.uses
   -- a page that is dirty or pinned, and isn't changed, is there as it was
   pub stays : (id : ℕ) → has_page id (change_here old.state op).pages ≡ false → StaysHere old.uses id → in_memory new.state id ≡ in_memory old.state id
+  -- what it makes is a good change, and its group fits the log
   pub well : MakesWell op old.state
