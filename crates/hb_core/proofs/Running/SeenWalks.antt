@@ -3,7 +3,7 @@ use Rattle.hb_core.proofs.Running.Names.{◌≡◌, ◌⊎◌, inl, ℕ, List, O
 use Rattle.std.proofs.Common.{MatchOption}
 use Rattle.hb_activity.specs.declared.activities.Activity.TheVariants as at
 use Rattle.hb_activity.specs.Walks.{IsSessionWalk, walk_holding}
-use Rattle.hb_point.specs.Asks.{MayAsk, PutsInto}
+use Rattle.hb_point.specs.Asks.{MayAsk, MayPutThere}
 use Rattle.hb_steps.specs.AskingDeciders.{IsSessionPut}
 use Rattle.hb_core.proofs.Running.SeenRows.{no_number, point_said, search_said}
 use Rattle.hb_core.specs.Moving.{placed}
@@ -70,10 +70,10 @@ module _ (st : StoreState) (activity : Activity) (id : ℕ) (walks : IsSessionWa
 
 module _ (st : StoreState) (activity : Activity) (id : ℕ) (free : Option (ℕ × ℕ)) (puts : IsSessionPut activity) (asks : AsksPoint st activity id free) (v : Page) (view : if_live (Some v) ≡ live_here st id) where
   -- the page that stayed can hold the record
-  pub put_asked : IsLiveAnd v (PutsInto activity)
+  pub put_asked : IsLiveAnd v (MayPutThere activity)
   put_asked = by v view
     where
-      into : (a : Activity) → IsSessionPut a → MayAsk a st.meta free id asks.page (other_page st activity) → PutsInto a asks.page
+      into : (a : Activity) → IsSessionPut a → MayAsk a st.meta free id asks.page (other_page st activity) → MayPutThere a asks.page
       into (at.SessionPut line source fresh) puts halves = record {
         rec = halves.rec;
         command = halves.command;
@@ -81,8 +81,8 @@ module _ (st : StoreState) (activity : Activity) (id : ℕ) (free : Option (ℕ 
       }
       into a puts asked = absurd puts
 
-      by : (v : Page) → if_live (Some v) ≡ live_here st id → IsLiveAnd v (PutsInto activity)
-      by (Live page) is = subst (PutsInto activity) (same_Some asks.page page (sym asks.live ∙ sym is)) (into activity puts asks.asked)
+      by : (v : Page) → if_live (Some v) ≡ live_here st id → IsLiveAnd v (MayPutThere activity)
+      by (Live page) is = subst (MayPutThere activity) (same_Some asks.page page (sym asks.live ∙ sym is)) (into activity puts asks.asked)
       by (Free next) is = let no : ⊥ = cc (is ∙ asks.live) in absurd no
 
   abbrev SaysRow : Deed → LivePage → Type 0
