@@ -1,0 +1,106 @@
+-- Copying, of the records at the front of bytes, those that lie in a box.
+use Rattle.std.proofs.Common.{◌≡◌, ◌⊎◌, inl, inr, ℕ, ◌+◌, ◌-◌, ◌*◌, ◌<◌, ◌≤◌, Bool, true, false, cond, List, [], ◌∷◌, ◌++◌, length, get_or, drop, Option, Some, None, IsSome, refl, sym, ap, subst, ◌∙◌, append_assoc, arith}
+use Rattle.std.proofs.lemmas.Bool.{cases_Bool}
+use Rattle.std.proofs.lemmas.List.{append-nil}
+use Rattle.std.proofs.lemmas.Option.{same_Some}
+use Rattle.hb_space.proofs.Facts.Boxes.{Holds-from_test, test-from_Holds}
+use Rattle.hb_space.specs.Boxes.{Area, Holds, IsArea, holds}
+use Rattle.hb_space.specs.declared.records.Record.{Record}
+use Rattle.hb_frag.specs.declared.leaves.Leaf.{Leaf}
+use Rattle.hb_frag.specs.declared.leaves.Leaf.TheVariants.{Records, Child, Sibling}
+use Rattle.hb_frag.specs.Leaves.{IsPointer, IsWellCut, Placed, first_at, leaves_of}
+use Rattle.hb_frag.specs.Trees.{Tree}
+use Rattle.hb_page_codec.specs.Reading.{many_at}
+use Rattle.hb_page_codec.specs.ReadingFields.{point_at, record_at, records_at}
+use Rattle.hb_view.specs.Behind.{list_or}
+use Rattle.hb_view.specs.Corners.{point_there}
+use Rattle.hb_view.specs.Lists.{records_there}
+use Rattle.hb_view.specs.Views.{LeafWithin, ShowsLeaf}
+use Rattle.hb_view.specs.Within.{TakesFound, TakesWithin, records_within}
+use Rattle.hb_view.specs.declared.leaves.LeafView.{LeafView}
+use Rattle.hb_view.proofs.Cornered.{point_count, point_is}
+use Rattle.hb_view.proofs.Listed.{left_list}
+
+-- ---- a point where it stands
+
+-- its values so far lie between those of two corners
+abbrev pub LiesTo : ℕ → List ℕ → List ℕ → List ℕ → Type 0
+LiesTo i p least greatest = (j : ℕ) → j < i → (get_or least j 0 ≤ get_or p j 0) × (get_or p j 0 ≤ get_or greatest j 0)
+
+module _ (k : ℕ) (bytes : List ℕ) (at_hand : Area) (room : 8 * k ≤ length bytes) (attributes : length at_hand.lo ≡ k) where
+  pub lies_inside : (i : ℕ) → IsArea at_hand → k ≤ i → LiesTo i (point_there k bytes) at_hand.lo at_hand.hi → true ≡ holds at_hand (point_there k bytes)
+  lies_inside i is_area le each =
+      let many = point_count k bytes room in
+      sym (test-from_Holds at_hand (point_there k bytes) is_area (record { same = many ∙ sym attributes; between = λ j lt. each j (omega (arith, lt, le, many)) }))
+
+  pub lies_outside : (i : ℕ) → i < k → (get_or (point_there k bytes) i 0 < get_or at_hand.lo i 0) ⊎ (get_or at_hand.hi i 0 < get_or (point_there k bytes) i 0) → false ≡ holds at_hand (point_there k bytes)
+  lies_outside i lt out = elim (cases_Bool (holds at_hand (point_there k bytes))) [
+    | inl yes ↦ absurd (never (Holds-from_test at_hand (point_there k bytes) yes) out)
+    | inr no ↦ sym no
+  ]
+    where
+      never : Holds at_hand (point_there k bytes) → (get_or (point_there k bytes) i 0 < get_or at_hand.lo i 0) ⊎ (get_or at_hand.hi i 0 < get_or (point_there k bytes) i 0) → ⊥
+      never inside out =
+          let many = point_count k bytes room in
+          let between = inside.between i (omega (arith, lt, many)) in
+          elim out [ inl below ↦ omega (arith, below, between.0) | inr above ↦ omega (arith, above, between.1) ]
+
+pub point_read_is : (k : ℕ) (bytes key rest : List ℕ) → point_at k bytes ≡ Some (key, rest) → key ≡ point_there k bytes
+point_read_is k bytes key rest e = sym (ap list_or e)
+
+pub point_not_missing : (k : ℕ) (bytes : List ℕ) → 8 * k ≤ length bytes → point_at k bytes ≡ None → ⊥
+point_not_missing k bytes room none = let never : None ≡ Some (point_there k bytes, drop (8 * k) bytes) = sym none ∙ point_is k bytes room in cc never
+
+-- ---- one record after the other
+
+-- what was taken so far, with what is held of the records that are left, is what is to be taken
+abbrev pub TakesRest : Area → List Record → List Record → List Record → Type 0
+TakesRest at_hand so_far left all = so_far ++ records_within at_hand left ≡ all
+
+module _ (k count i : ℕ) (rest after : List ℕ) (at_hand : Area) (so_far all : List Record) (r : Record) (lt : i < count) (there : IsSome (records_at k (count - i) rest)) (read : record_at k rest ≡ Some (r, after)) (same : TakesRest at_hand so_far (records_there k (count - i) rest) all) where
+  abbrev others : List Record
+  others = records_there k (count - (i + 1)) after
+
+  goes : (b : Bool) → holds at_hand r.key ≡ b → so_far ++ cond b (r ∷ records_within at_hand others) (records_within at_hand others) ≡ all
+  goes b test =
+      ap (λ (c : Bool). so_far ++ cond c (r ∷ records_within at_hand others) (records_within at_hand others)) (sym test)
+      ∙ ap (λ (rs : List Record). so_far ++ records_within at_hand rs) (sym (left_list k count i rest r after lt there read))
+      ∙ same
+
+  pub takes_it : (new : List Record) → new ≡ so_far ++ r ∷ [] → true ≡ holds at_hand r.key → TakesRest at_hand new others all
+  takes_it new pushed test =
+      ap (λ (rs : List Record). rs ++ records_within at_hand others) pushed ∙ append_assoc so_far (r ∷ []) (records_within at_hand others) ∙ goes true (sym test)
+
+  pub leaves_it : false ≡ holds at_hand r.key → TakesRest at_hand so_far others all
+  leaves_it test = goes false (sym test)
+
+pub none_more : (k count i : ℕ) (rest : List ℕ) (at_hand : Area) (so_far all : List Record) → count ≤ i → TakesRest at_hand so_far (records_there k (count - i) rest) all → so_far ≡ all
+unfolding many_at
+none_more k count i rest at_hand so_far all le same =
+    let e : count - i ≡ 0 = omega arith in
+    sym (append-nil so_far) ∙ ap (λ (n : ℕ). so_far ++ records_within at_hand (records_there k n rest)) (sym e) ∙ same
+
+-- ---- the leaf at a point
+
+module _ (t : Tree) (area : Area) (p : List ℕ) (is_area : IsArea area) (cut : IsWellCut t area) (held : Holds area p) (at_hand : Area) (old : List Record) where
+  pub takes_found : (records new : List Record) (view : LeafView) (box : Area) → LeafWithin (λ leaf. leaf ≡ Records records) t p → ShowsLeaf (first_at p (leaves_of t area)) view box → new ≡ old ++ records_within at_hand records
+      → TakesFound at_hand (first_at p (leaves_of t area)) old new (Some box)
+  takes_found records new view box within shows is =
+      let there = within area is_area cut held in
+      let same : shows.placed ≡ there.0 = same_Some shows.placed there.0 (sym shows.found ∙ there.1) in
+      let told : Some box ≡ Some there.0.area = ap Some (shows.area ∙ ap (λ (l : Placed). l.area) same) in
+      record {
+        placed = there.0;
+        found = there.1;
+        takes = subst (λ (leaf : Leaf). TakesWithin at_hand leaf there.0.area old new (Some box)) (sym there.2) (is, told);
+      }
+
+  pub takes_none : LeafWithin IsPointer t p → TakesFound at_hand (first_at p (leaves_of t area)) old old None
+  takes_none within =
+      let there = within area is_area cut held in
+      record { placed = there.0; found = there.1; takes = nothing there.0.leaf there.0.area there.2 }
+    where
+      nothing : (leaf : Leaf) (box : Area) → IsPointer leaf → TakesWithin at_hand leaf box old old None
+      nothing (Records records) box names = absurd names
+      nothing (Child page) box names = (refl, refl)
+      nothing (Sibling page) box names = (refl, refl)
