@@ -10,6 +10,8 @@ use Rattle.hb_frag.specs.declared.leaves.Leaf.{Leaf}
 use Rattle.hb_frag.specs.declared.leaves.Leaf.TheVariants.{Records, Child, Sibling}
 use Rattle.hb_frag.specs.Leaves.{IsPointer, IsWellCut, Placed, first_at, leaves_of}
 use Rattle.hb_frag.specs.Trees.{Tree}
+use Rattle.hb_frag.proofs.Facts.Tiles.{tiles_areas}
+use Rattle.hb_ops.proofs.Facts.Opened.{first_has}
 use Rattle.hb_page_codec.specs.Reading.{many_at}
 use Rattle.hb_page_codec.specs.ReadingFields.{point_at, record_at, records_at}
 use Rattle.hb_view.specs.Behind.{list_or}
@@ -19,7 +21,7 @@ use Rattle.hb_view.specs.Views.{LeafWithin, ShowsLeaf}
 use Rattle.hb_view.specs.Within.{TakesFound, TakesWithin, records_within}
 use Rattle.hb_view.specs.declared.leaves.LeafView.{LeafView}
 use Rattle.hb_view.proofs.Cornered.{point_count, point_is}
-use Rattle.hb_view.proofs.Listed.{left_list}
+use Rattle.hb_view.proofs.Listed.{left_list, others_there}
 
 -- ---- a point where it stands
 
@@ -27,19 +29,29 @@ use Rattle.hb_view.proofs.Listed.{left_list}
 abbrev pub LiesTo : ℕ → List ℕ → List ℕ → List ℕ → Type 0
 LiesTo i p least greatest = (j : ℕ) → j < i → (get_or least j 0 ≤ get_or p j 0) × (get_or p j 0 ≤ get_or greatest j 0)
 
+-- one of them doesn't
+abbrev pub PastCorner : List ℕ → Area → ℕ → Type 0
+PastCorner p at_hand i = (get_or p i 0 < get_or at_hand.lo i 0) ⊎ (get_or at_hand.hi i 0 < get_or p i 0)
+
 module _ (k : ℕ) (bytes : List ℕ) (at_hand : Area) (room : 8 * k ≤ length bytes) (attributes : length at_hand.lo ≡ k) where
   pub lies_inside : (i : ℕ) → IsArea at_hand → k ≤ i → LiesTo i (point_there k bytes) at_hand.lo at_hand.hi → true ≡ holds at_hand (point_there k bytes)
   lies_inside i is_area le each =
       let many = point_count k bytes room in
       sym (test-from_Holds at_hand (point_there k bytes) is_area (record { same = many ∙ sym attributes; between = λ j lt. each j (omega (arith, lt, le, many)) }))
 
-  pub lies_outside : (i : ℕ) → i < k → (get_or (point_there k bytes) i 0 < get_or at_hand.lo i 0) ⊎ (get_or at_hand.hi i 0 < get_or (point_there k bytes) i 0) → false ≡ holds at_hand (point_there k bytes)
+  pub below_least : (i value : ℕ) (corner least : List ℕ) → value ≡ get_or (point_there k bytes) i 0 → least ≡ corner → corner ≡ at_hand.lo → value < get_or least i 0 → PastCorner (point_there k bytes) at_hand i
+  below_least i value corner least is same lo lt = inl (let e = ap (λ (l : List ℕ). get_or l i 0) (same ∙ lo) in omega (arith, e, is, lt))
+
+  pub above_greatest : (i value : ℕ) (corner greatest : List ℕ) → value ≡ get_or (point_there k bytes) i 0 → greatest ≡ corner → corner ≡ at_hand.hi → get_or greatest i 0 < value → PastCorner (point_there k bytes) at_hand i
+  above_greatest i value corner greatest is same hi lt = inr (let e = ap (λ (l : List ℕ). get_or l i 0) (same ∙ hi) in omega (arith, e, is, lt))
+
+  pub lies_outside : (i : ℕ) → i < k → PastCorner (point_there k bytes) at_hand i → false ≡ holds at_hand (point_there k bytes)
   lies_outside i lt out = elim (cases_Bool (holds at_hand (point_there k bytes))) [
-    | inl yes ↦ absurd (never (Holds-from_test at_hand (point_there k bytes) yes) out)
-    | inr no ↦ sym no
+    | inl held ↦ absurd (never (Holds-from_test at_hand (point_there k bytes) held) out)
+    | inr past ↦ sym past
   ]
     where
-      never : Holds at_hand (point_there k bytes) → (get_or (point_there k bytes) i 0 < get_or at_hand.lo i 0) ⊎ (get_or at_hand.hi i 0 < get_or (point_there k bytes) i 0) → ⊥
+      never : Holds at_hand (point_there k bytes) → PastCorner (point_there k bytes) at_hand i → ⊥
       never inside out =
           let many = point_count k bytes room in
           let between = inside.between i (omega (arith, lt, many)) in
@@ -53,32 +65,35 @@ point_not_missing k bytes room none = let never : None ≡ Some (point_there k b
 
 -- ---- one record after the other
 
--- what was taken so far, with what is held of the records that are left, is what is to be taken
-abbrev pub TakesRest : Area → List Record → List Record → List Record → Type 0
-TakesRest at_hand so_far left all = so_far ++ records_within at_hand left ≡ all
+-- So many records are left. What was taken so far, with those of them that lie in the box, is what is to be taken.
+pub record TakesOn (k left : ℕ) (rest : List ℕ) (at_hand : Area) (so_far all : List Record) : Type 0 where
+  pub there : IsSome (records_at k left rest)
+  pub same : so_far ++ records_within at_hand (records_there k left rest) ≡ all
 
-module _ (k count i : ℕ) (rest after : List ℕ) (at_hand : Area) (so_far all : List Record) (r : Record) (lt : i < count) (there : IsSome (records_at k (count - i) rest)) (read : record_at k rest ≡ Some (r, after)) (same : TakesRest at_hand so_far (records_there k (count - i) rest) all) where
+module _ (k count i : ℕ) (rest after behind : List ℕ) (at_hand : Area) (so_far all : List Record) (r : Record) (lt : i < count) (read : record_at k rest ≡ Some (r, after)) (is : behind ≡ after) (takes : TakesOn k (count - i) rest at_hand so_far all) where
   abbrev others : List Record
   others = records_there k (count - (i + 1)) after
 
   goes : (b : Bool) → holds at_hand r.key ≡ b → so_far ++ cond b (r ∷ records_within at_hand others) (records_within at_hand others) ≡ all
   goes b test =
       ap (λ (c : Bool). so_far ++ cond c (r ∷ records_within at_hand others) (records_within at_hand others)) (sym test)
-      ∙ ap (λ (rs : List Record). so_far ++ records_within at_hand rs) (sym (left_list k count i rest r after lt there read))
-      ∙ same
+      ∙ ap (λ (rs : List Record). so_far ++ records_within at_hand rs) (sym (left_list k count i rest r after lt takes.there read))
+      ∙ takes.same
 
-  pub takes_it : (new : List Record) → new ≡ so_far ++ r ∷ [] → true ≡ holds at_hand r.key → TakesRest at_hand new others all
-  takes_it new pushed test =
-      ap (λ (rs : List Record). rs ++ records_within at_hand others) pushed ∙ append_assoc so_far (r ∷ []) (records_within at_hand others) ∙ goes true (sym test)
+  goes_on : (new : List Record) → new ++ records_within at_hand others ≡ all → TakesOn k (count - (i + 1)) behind at_hand new all
+  goes_on new same = subst (λ (b : List ℕ). TakesOn k (count - (i + 1)) b at_hand new all) (sym is) (record { there = others_there k count i rest r after lt takes.there read; same = same })
 
-  pub leaves_it : false ≡ holds at_hand r.key → TakesRest at_hand so_far others all
-  leaves_it test = goes false (sym test)
+  pub takes_it : (new : List Record) → new ≡ so_far ++ r ∷ [] → true ≡ holds at_hand r.key → TakesOn k (count - (i + 1)) behind at_hand new all
+  takes_it new pushed test = goes_on new (ap (λ (rs : List Record). rs ++ records_within at_hand others) pushed ∙ append_assoc so_far (r ∷ []) (records_within at_hand others) ∙ goes true (sym test))
 
-pub none_more : (k count i : ℕ) (rest : List ℕ) (at_hand : Area) (so_far all : List Record) → count ≤ i → TakesRest at_hand so_far (records_there k (count - i) rest) all → so_far ≡ all
+  pub leaves_it : (new : List Record) → new ≡ so_far → false ≡ holds at_hand r.key → TakesOn k (count - (i + 1)) behind at_hand new all
+  leaves_it new same test = goes_on new (ap (λ (rs : List Record). rs ++ records_within at_hand others) same ∙ goes false (sym test))
+
+pub none_more : (k count i : ℕ) (rest : List ℕ) (at_hand : Area) (so_far all : List Record) → count ≤ i → TakesOn k (count - i) rest at_hand so_far all → so_far ≡ all
 unfolding many_at
-none_more k count i rest at_hand so_far all le same =
+none_more k count i rest at_hand so_far all le takes =
     let e : count - i ≡ 0 = omega arith in
-    sym (append-nil so_far) ∙ ap (λ (n : ℕ). so_far ++ records_within at_hand (records_there k n rest)) (sym e) ∙ same
+    sym (append-nil so_far) ∙ ap (λ (n : ℕ). so_far ++ records_within at_hand (records_there k n rest)) (sym e) ∙ takes.same
 
 -- ---- the leaf at a point
 
@@ -94,6 +109,9 @@ module _ (t : Tree) (area : Area) (p : List ℕ) (is_area : IsArea area) (cut : 
         found = there.1;
         takes = subst (λ (leaf : Leaf). TakesWithin at_hand leaf there.0.area old new (Some box)) (sym there.2) (is, told);
       }
+
+  pub box_told : (view : LeafView) (box : Area) → ShowsLeaf (first_at p (leaves_of t area)) view box → IsArea box
+  box_told view box shows = subst IsArea (sym shows.area) (first_has (λ l. IsArea l.area) p (leaves_of t area) shows.placed shows.found (tiles_areas t area is_area cut))
 
   pub takes_none : LeafWithin IsPointer t p → TakesFound at_hand (first_at p (leaves_of t area)) old old None
   takes_none within =

@@ -1,6 +1,6 @@
 //! Copies of the records that lie in a box, out of a leaf that is read where it stands.
-ghost use Rattle.std.specs.Prelude.{◌≡◌, ◌≤◌, ◌*◌, ◌++◌, length, IfOk, OnOk};
-ghost use Rattle.hb_space.specs.Boxes.{Holds, holds};
+ghost use Rattle.std.specs.Prelude.{◌≡◌, ◌≤◌, ◌*◌, ◌++◌, length, IfOk, IfSome, OnOk};
+ghost use Rattle.hb_space.specs.Boxes.{Holds, IsArea, holds};
 ghost use Rattle.hb_frag.specs.Leaves.{IsWellCut, first_at, leaves_of};
 ghost use Rattle.hb_view.specs.Corners.{point_there};
 ghost use Rattle.hb_view.specs.Seen.{area_seen, list_seen, tree_seen};
@@ -83,8 +83,9 @@ pub(crate) fn take_in(
     requires held { Holds (area_seen inside.now) p.now }
     requires attributes { length p.now ≡ inside.now.tree.k.number }
     requires same { length at_hand.now.lo ≡ inside.now.tree.k.number }
-    ensures { IfOk result (λ told. TakesFound at_hand.now
+    ensures takes { IfOk result (λ told. TakesFound at_hand.now
         (first_at p.now (leaves_of (tree_seen inside.now.tree) (area_seen inside.now))) found.old.items found.new.items told) }
+    ensures area { IfOk result (λ told. IfSome told IsArea) }
 {
     match list_in(&inside.tree, p.values()) {
         Some(list) => {

@@ -1,7 +1,7 @@
 //! A page seen from its bytes.
 ghost use Rattle.std.specs.Prelude.{◌≡◌, ◌≤◌, ◌↔◌, length, IfOk, IfSome, IsNone, IsSome, IsTrue, MatchOption, None, option_map};
 ghost use Rattle.std.specs.List.{slice_get};
-ghost use Rattle.hb_space.specs.Boxes.{Holds};
+ghost use Rattle.hb_space.specs.Boxes.{Holds, IsArea};
 ghost use Rattle.hb_frag.specs.Grammar.{HasSpelling};
 ghost use Rattle.hb_frag.specs.Leaves.{first_named, leaf_at, leaves_of, siblings_of, weight_of, WellCut};
 ghost use Rattle.hb_ops.specs.Sound.{FitsFile, BreaksFirst};
@@ -168,8 +168,9 @@ impl<'a> PageView<'a> {
         requires well_cut { IsLiveAnd self.now WellCut }
         requires held { IsLiveAnd self.now (λ page. Holds page.area p.now) }
         requires same { length at_hand.now.lo ≡ length p.now }
-        ensures { IfOk result (λ told. IsLiveAnd self.now
+        ensures takes { IfOk result (λ told. IsLiveAnd self.now
             (λ page. TakesFound at_hand.now (leaf_at page p.now) found.old.items found.new.items told)) }
+        ensures area { IfOk result (λ told. IfSome told IsArea) }
     {
         take_in(&self.inside(), p, at_hand, found)
     }
