@@ -2,24 +2,15 @@
 use Rattle.std.proofs.Common.{◌≡◌, ◌⊎◌, inl, inr, ℕ, ◌+◌, ◌-◌, ◌*◌, ◌<◌, ◌≤◌, Bool, true, false, cond, List, [], ◌∷◌, ◌++◌, length, get_or, drop, Option, Some, None, IsSome, refl, sym, ap, subst, ◌∙◌, append_assoc, arith}
 use Rattle.std.proofs.lemmas.Bool.{cases_Bool}
 use Rattle.std.proofs.lemmas.List.{append-nil}
-use Rattle.std.proofs.lemmas.Option.{same_Some}
 use Rattle.hb_space.proofs.Facts.Boxes.{Holds-from_test, test-from_Holds}
 use Rattle.hb_space.specs.Boxes.{Area, Holds, IsArea, holds}
 use Rattle.hb_space.specs.declared.records.Record.{Record}
-use Rattle.hb_frag.specs.declared.leaves.Leaf.{Leaf}
-use Rattle.hb_frag.specs.declared.leaves.Leaf.TheVariants.{Records, Child, Sibling}
-use Rattle.hb_frag.specs.Leaves.{IsPointer, IsWellCut, Placed, first_at, leaves_of}
-use Rattle.hb_frag.specs.Trees.{Tree}
-use Rattle.hb_frag.proofs.Facts.Tiles.{tiles_areas}
-use Rattle.hb_ops.proofs.Facts.Opened.{first_has}
 use Rattle.hb_page_codec.specs.Reading.{many_at}
 use Rattle.hb_page_codec.specs.ReadingFields.{point_at, record_at, records_at}
 use Rattle.hb_view.specs.Behind.{list_or}
 use Rattle.hb_view.specs.Corners.{point_there}
 use Rattle.hb_view.specs.Lists.{records_there}
-use Rattle.hb_view.specs.Views.{LeafWithin, ShowsLeaf}
-use Rattle.hb_view.specs.Within.{TakesFound, TakesWithin, records_within}
-use Rattle.hb_view.specs.declared.leaves.LeafView.{LeafView}
+use Rattle.hb_view.specs.Within.{records_within}
 use Rattle.hb_view.proofs.Cornered.{point_count, point_is}
 use Rattle.hb_view.proofs.Listed.{left_list, others_there}
 
@@ -94,31 +85,3 @@ unfolding many_at
 none_more k count i rest at_hand so_far all le takes =
     let e : count - i ≡ 0 = omega arith in
     sym (append-nil so_far) ∙ ap (λ (n : ℕ). so_far ++ records_within at_hand (records_there k n rest)) (sym e) ∙ takes.same
-
--- ---- the leaf at a point
-
-module _ (t : Tree) (area : Area) (p : List ℕ) (is_area : IsArea area) (cut : IsWellCut t area) (held : Holds area p) (at_hand : Area) (old : List Record) where
-  pub takes_found : (records new : List Record) (view : LeafView) (box : Area) → LeafWithin (λ leaf. leaf ≡ Records records) t p → ShowsLeaf (first_at p (leaves_of t area)) view box → new ≡ old ++ records_within at_hand records
-      → TakesFound at_hand (first_at p (leaves_of t area)) old new (Some box)
-  takes_found records new view box within shows is =
-      let there = within area is_area cut held in
-      let same : shows.placed ≡ there.0 = same_Some shows.placed there.0 (sym shows.found ∙ there.1) in
-      let told : Some box ≡ Some there.0.area = ap Some (shows.area ∙ ap (λ (l : Placed). l.area) same) in
-      record {
-        placed = there.0;
-        found = there.1;
-        takes = subst (λ (leaf : Leaf). TakesWithin at_hand leaf there.0.area old new (Some box)) (sym there.2) (is, told);
-      }
-
-  pub box_told : (view : LeafView) (box : Area) → ShowsLeaf (first_at p (leaves_of t area)) view box → IsArea box
-  box_told view box shows = subst IsArea (sym shows.area) (first_has (λ l. IsArea l.area) p (leaves_of t area) shows.placed shows.found (tiles_areas t area is_area cut))
-
-  pub takes_none : LeafWithin IsPointer t p → TakesFound at_hand (first_at p (leaves_of t area)) old old None
-  takes_none within =
-      let there = within area is_area cut held in
-      record { placed = there.0; found = there.1; takes = nothing there.0.leaf there.0.area there.2 }
-    where
-      nothing : (leaf : Leaf) (box : Area) → IsPointer leaf → TakesWithin at_hand leaf box old old None
-      nothing (Records records) box names = absurd names
-      nothing (Child page) box names = (refl, refl)
-      nothing (Sibling page) box names = (refl, refl)
