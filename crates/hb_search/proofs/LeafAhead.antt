@@ -1,5 +1,5 @@
 -- A search at a leaf of records: what it finds there is of other points than what it found before.
-use Rattle.std.proofs.Common.{◌≡◌, ◌-◌, suc, List, [], ◌∷◌, ◌++◌, length, get_or, Some, sym, ap, subst, ◌∙◌, arith}
+use Rattle.std.proofs.Common.{◌≡◌, ◌-◌, suc, List, [], ◌∷◌, ◌++◌, length, get_or, All, Some, sym, ap, subst, ◌∙◌, arith}
 use Rattle.std.specs.List.{Contains, slice_get}
 use Rattle.std.proofs.lemmas.List.Elements.{All-contains, Contains-get_or}
 use Rattle.std.proofs.lemmas.Option.{slice_get_past, none-some}
@@ -10,18 +10,19 @@ use Rattle.hb_frag.specs.declared.leaves.Leaf.TheVariants.{Records}
 use Rattle.hb_frag.specs.declared.pages.LivePage.{LivePage}
 use Rattle.hb_ops.proofs.Facts.Opened.{first_has}
 use Rattle.hb_search.proofs.Facts.StaysApart.{stays_apart}
-use Rattle.hb_search.specs.Gathering.{IsLeafAhead}
+use Rattle.hb_search.specs.Gathering.{IsLeafBehind, boxes_then}
 use Rattle.hb_search.specs.Searching.{IsGathering}
 use Rattle.hb_space.proofs.Facts.Boxes.{Meets-from_point, lo_held}
 use Rattle.hb_space.specs.Boxes.{Area, Holds, IsArea}
 use Rattle.hb_space.specs.declared.records.Record.{Record}
 use Rattle.hb_frag.proofs.Facts.OrderedLeaves.{rising_differ}
+use Rattle.hb_view.specs.Within.{records_within}
 
 abbrev no_areas : List Area
 no_areas = []
 
 -- the last of a list, and those in front of it
-last_splits : (xs : List Area) (x : Area) → slice_get xs (length xs - 1) ≡ Some x → (front : List Area) × (xs ≡ front ++ x ∷ [])
+pub last_splits : (xs : List Area) (x : Area) → slice_get xs (length xs - 1) ≡ Some x → (front : List Area) × (xs ≡ front ++ x ∷ [])
 last_splits [] x is = absurd (none-some x (sym (slice_get_past no_areas (0 - 1) (omega arith)) ∙ is))
 last_splits (y ∷ []) x is =
     let first : Some y ≡ Some x = ap (slice_get (y ∷ [])) (let e : 0 ≡ length (y ∷ []) - 1 = omega arith in e) ∙ is in
@@ -42,8 +43,11 @@ module _ (page : LivePage) (rest : List Area) (found records : List Record) (are
   attributes : (r : Record) → Contains records r → length r.key ≡ length at_hand.lo
   attributes r there = (All-contains (λ s. Holds area s.key) records r in_leaf.inside there).same ∙ sym inside.same
 
-  pub leaf_ahead : IsLeafAhead rest found records area
-  leaf_ahead =
+  pub keys : (seen : List Record) → seen ≡ records → All (λ r. length r.key ≡ length at_hand.lo) seen
+  keys seen same = subst (All (λ r. length r.key ≡ length at_hand.lo)) (sym same) (λ k d lt. attributes (get_or records k d) (Contains-get_or records k d lt))
+
+  pub leaf_behind : (gathered : List Record) → gathered ≡ found ++ records_within at_hand records → IsLeafBehind rest gathered area
+  leaf_behind gathered taken =
       let split = last_splits rest at_hand is_last in
       let meets = Meets-from_point at_hand area at_hand.lo (lo_held at_hand is_area) inside in
       record {
@@ -52,7 +56,6 @@ module _ (page : LivePage) (rest : List Area) (found records : List Record) (are
         boxes = split.1;
         same = inside.same;
         meets = meets;
-        keys = λ k d lt. attributes (get_or records k d) (Contains-get_or records k d lt);
-        stays = stays_apart split.0 found records at_hand area (subst (λ (l : List Area). IsGathering l found) split.1 gathering) is_area leaf_is inside.same meets
-            (λ r there. All-contains (λ s. Holds area s.key) records r in_leaf.inside there) (rising_differ records in_leaf.rising);
+        stays = subst (λ (l : List Record). IsGathering (boxes_then split.0 at_hand area) l) (sym taken) (stays_apart split.0 found records at_hand area (subst (λ (l : List Area). IsGathering l found) split.1 gathering) is_area leaf_is inside.same meets
+            (λ r there. All-contains (λ s. Holds area s.key) records r in_leaf.inside there) (rising_differ records in_leaf.rising));
       }
