@@ -3,7 +3,7 @@ use Rattle.hb_activity.specs.declared.jobs.Job.{Job}
 use Rattle.hb_activity.specs.Walks.{goal_of}
 use Rattle.hb_frag.specs.declared.leaves.Leaf.TheVariants.{Records, Child, Sibling}
 use Rattle.hb_search.proofs.AskedSearches.{found_so, gathers_if, leaf_here, meets_records, passes_on, stays_so}
-use Rattle.hb_search.proofs.LeafAhead.{keys, leaf_behind}
+use Rattle.hb_search.proofs.LeafAhead.{keys, leaf_area, leaf_behind}
 use Rattle.hb_search.proofs.walking.search.Goals as goal
 use Rattle.hb_space.specs.Boxes.{Holds}
 
@@ -11,13 +11,13 @@ pub take_held-requires : goal.take_held-requires
 take_held-requires c =
     let corner = c.copy-corner.ensures ∙ c.lo.ensures.value in
     let there = leaf_here c.args.latched.page.now c.copy-corner.result c.last_of-at_hand.result.now.lo _ (Records c.in-Records-default.records) c.leaf_at.result.1 corner c.leaf_at.ensures.value c.in-Records-default.is-0 in
-    keys c.args.latched.page.now c.args.rest c.args.found c.in-Records-default.records c.leaf_at.result.1 c.last_of-at_hand.result.now c.args.latched.fits.in_order c.requires.gathering c.last_of-at_hand.ensures.last c.lo.ensures.area c.leaf_at.ensures.area c.args.latched.fits.well_cut there (subst (Holds c.leaf_at.result.1) corner c.leaf_at.ensures.inside) _ c.as_slice.ensures
+    keys c.args.latched.page.now c.args.rest c.args.found c.in-Records-default.records c.leaf_at.result.1 c.last_of-at_hand.result.now c.args.latched.fits.in_order c.requires.gathering c.last_of-at_hand.ensures.last c.lo.ensures.area (leaf_area c.args.latched.page.now _ _ c.leaf_at.ensures.area c.args.latched.fits.well_cut there) there (subst (Holds c.leaf_at.result.1) corner c.leaf_at.ensures.inside) _ c.as_slice.ensures
 
 pub go_behind-requires : goal.go_behind-requires
 go_behind-requires c =
     let corner = c.copy-corner.ensures ∙ c.lo.ensures.value in
     let there = leaf_here c.args.latched.page.now c.copy-corner.result c.last_of-at_hand.result.now.lo _ (Records c.in-Records-default.records) c.leaf_at.result.1 corner c.leaf_at.ensures.value c.in-Records-default.is-0 in
-    leaf_behind c.args.latched.page.now c.args.rest c.args.found c.in-Records-default.records c.leaf_at.result.1 c.last_of-at_hand.result.now c.args.latched.fits.in_order c.requires.gathering c.last_of-at_hand.ensures.last c.lo.ensures.area c.leaf_at.ensures.area c.args.latched.fits.well_cut there (subst (Holds c.leaf_at.result.1) corner c.leaf_at.ensures.inside) _ (found_so c.args.found _ _ c.in-Records-default.records _ c.last_of-at_hand.result.now c.into_vec-found.ensures c.as_slice.ensures c.in_ok-take_held-in-Records-default.ensures)
+    leaf_behind c.args.latched.page.now c.args.rest c.args.found c.in-Records-default.records c.leaf_at.result.1 c.last_of-at_hand.result.now c.args.latched.fits.in_order c.requires.gathering c.last_of-at_hand.ensures.last c.lo.ensures.area (leaf_area c.args.latched.page.now _ _ c.leaf_at.ensures.area c.args.latched.fits.well_cut there) there (subst (Holds c.leaf_at.result.1) corner c.leaf_at.ensures.inside) _ (found_so c.args.found _ _ c.in-Records-default.records _ c.last_of-at_hand.result.now c.into_vec-found.ensures c.as_slice.ensures c.in_ok-take_held-in-Records-default.ensures)
 
 pub returns-in_ok-take_held-in-Records-default-clause-row : goal.returns-in_ok-take_held-in-Records-default-clause-row
 returns-in_ok-take_held-in-Records-default-clause-row c =
