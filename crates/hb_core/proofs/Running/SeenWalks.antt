@@ -4,8 +4,7 @@ use Rattle.hb_activity.specs.declared.activities.Activity.TheVariants as at
 use Rattle.hb_activity.specs.Walks.{IsSessionWalk}
 use Rattle.hb_core.proofs.Running.SeenRows.{no_number, point_said, search_said}
 use Rattle.hb_core.specs.Moving.{placed}
-use Rattle.hb_search.specs.Searching.{GathersNow, MaySearch, MaySearchIn, SearchRowIn}
-use Rattle.hb_steps.specs.AskingDeciders.{GathersAt}
+use Rattle.hb_search.specs.Searching.{MaySearch, MaySearchIn, SearchRowIn}
 
 -- ---- a search
 
@@ -28,10 +27,6 @@ module _ (st : StoreState) (activity : Activity) (n id : ℕ) (is_id : id ≡ n)
   pub search_row : (v : Page) → if_live (Some v) ≡ live_here st id → (next : Next) → IsLiveAnd v (λ page. SearchRowIn activity id page next) → (place : ℕ) → HasSearchRow st activity n place (placed place (deed_of activity next))
   search_row (Live page) is next row place = search_said st activity n None id page None st.meta is_id (sym is) search_alone refl (no_number st) (deed_of activity next) (row st.meta None) place
   search_row (Free free) is next row place = absurd row
-
-  pub search_gathers : (v : Page) → if_live (Some v) ≡ live_here st id → IsLiveAnd v (GathersNow activity) → GathersAt st activity n
-  search_gathers (Live page) is now = (page, sym (ap (live_here st) is_id) ∙ sym is, now)
-  search_gathers (Free next) is now = absurd now
 
 -- ---- an insert, a delete or a lookup
 
