@@ -36,7 +36,11 @@ pub(crate) fn go_behind(
 }
 
 /// Copies of the records that the box holds join those that were found.
-pub(crate) fn take_held(found: &mut Vec<Record>, records: &[Record], at_hand: &Area) -> Result<(), NoMemory>
+pub(crate) fn take_held(
+    found: &mut Vec<Record>,
+    records: &[Record],
+    at_hand: &Area,
+) -> Result<(), NoMemory>
     requires { All (λ r. length r.key ≡ length at_hand.now.lo) records.now }
     ensures { OnOk result (found.new.items ≡ found.old.items ++ records_within at_hand.now records.now) }
 {

@@ -48,11 +48,7 @@ fn record_of(k: Attributes, bytes: &[u8], body: &[u8]) -> Record
 }
 
 /// Copies of the records that the box holds join others.
-fn take_held(
-    list: &ListView<'_>,
-    at_hand: &Area,
-    found: &mut Vec<Record>,
-) -> Result<(), NoMemory>
+fn take_held(list: &ListView<'_>, at_hand: &Area, found: &mut Vec<Record>) -> Result<(), NoMemory>
     requires { length at_hand.now.lo ≡ list.now.k.number }
     ensures { OnOk result (found.new.items ≡ found.old.items ++ records_within at_hand.now (list_seen list.now)) }
 {
