@@ -1,5 +1,5 @@
 -- What is said of a session's walk at a page that is read where its bytes lie is a row of it.
-use Rattle.hb_core.proofs.Running.Names.{◌≡◌, ℕ, Option, Some, None, refl, sym, ap, ◌∙◌, subst, same_Some, none-some, LivePage, Page, Live, Free, Meta, if_live, IsLiveAnd, Activity, Next, deed_of, given_pages, given_sight, Deed, PointRow, StoreState, AsksPoint, AsksSearcher, HasPointRow, HasSearchRow, other_page, live_here}
+use Rattle.hb_core.proofs.Running.Names.{◌≡◌, ℕ, Some, None, refl, sym, ap, ◌∙◌, subst, same_Some, none-some, Page, Live, Free, Meta, if_live, IsLiveAnd, Activity, Next, deed_of, given_pages, given_sight, Deed, PointRow, StoreState, AsksPoint, AsksSearcher, HasPointRow, HasSearchRow, other_page, live_here}
 use Rattle.hb_activity.specs.declared.activities.Activity.TheVariants as at
 use Rattle.hb_activity.specs.Walks.{IsSessionWalk}
 use Rattle.hb_core.proofs.Running.SeenRows.{no_number, point_said, search_said}
