@@ -24,7 +24,7 @@ pub(crate) fn from_place(bytes: &[u8], place: usize) -> &[u8]
 }
 
 /// A value of the point of `k` values that stands there.
-fn value_at(k: Attributes, bytes: &[u8], axis: usize) -> u64
+pub(crate) fn value_at(k: Attributes, bytes: &[u8], axis: usize) -> u64
     requires room { 8 * k.number ≤ length bytes.now }
     requires attribute { axis < k.number }
     ensures { result ≡ slice_index (point_there k.number bytes.now) axis }

@@ -6,7 +6,7 @@
 //!
 //! A view goes down one path. At a cut the left side begins behind the cut's value; the right side begins behind the left
 //! one, which is read over. Of a box on the way one value is changed, and given back behind the side. Only `page` wants
-//! memory, since it decodes.
+//! memory, since it decodes, and `records_in`, which copies records.
 //!
 //! Within the crate, a tree is a `TreeView`, a list of records a `ListView`, and a tree with its box an `Inside`: bytes of
 //! which it is known that one stands there. Making one tests nothing. A box on the way is a `Bounds`, which contracts see as
@@ -30,6 +30,7 @@ mod broken;
 mod checking;
 mod corners;
 mod fields;
+mod gathering;
 mod heads;
 pub mod laws;
 mod leaves;
