@@ -24,7 +24,7 @@ module _ {X : Type 0} (p : X → Bool) where
       ] (subst (λ n. n ≤ 0) (sum_by-cons (λ (y : X). cond (p y) 1 0) x xs) none)
 
   -- and then its place is past the end
-  nowhere : (xs : List X) → find p xs ≡ None → length xs ≡ position_or_len p xs
+  pub nowhere : (xs : List X) → find p xs ≡ None → length xs ≡ position_or_len p xs
   nowhere [] none = refl
   nowhere (x ∷ xs) none =
       elim (p x) as (λ b. cond b (Some x) (find p xs) ≡ None → suc (length xs) ≡ cond (not b) (1 + position_or_len p xs) 0) [
@@ -44,7 +44,7 @@ module _ {X : Type 0} (p : X → Bool) where
       ] (subst (λ n. n ≤ 1) (sum_by-cons (λ (y : X). cond (p y) 1 0) x xs) few)
 
   -- the place where one passes is the first
-  only_place : (xs : List X) (i : ℕ) (d : X) → i < length xs → p (get_or xs i d) ≡ true → count_by p xs ≤ 1 → i ≡ position_or_len p xs
+  pub only_place : (xs : List X) (i : ℕ) (d : X) → i < length xs → p (get_or xs i d) ≡ true → count_by p xs ≤ 1 → i ≡ position_or_len p xs
   only_place [] i d lt on few = absurd (omega arith)
   only_place (x ∷ xs) zero d lt on few = ap (λ b. cond (not b) (1 + position_or_len p xs) 0) (sym on)
   only_place (x ∷ xs) (suc i) d lt on few =
