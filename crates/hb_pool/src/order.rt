@@ -73,7 +73,13 @@ impl Order {
     pub(crate) fn slot_of(&self, id: u32) -> Option<u8>
         ensures { result ≡ option_map (λ e. e.1) (entry_of self.now id) }
     {
-        self.slots().get(self.place(id)).copied()
+        let place = self.place(id);
+        let slots = self.slots();
+        if place < slots.len() {
+            Some(slots[place])
+        } else {
+            None
+        }
     }
 
     /// The same of a page that is.
@@ -103,6 +109,8 @@ impl Order {
         ensures slot { slice_get (map (λ e. e.1) self.old) place ≡ Some result }
     {
         let slot = self.slots()[place];
+        // the length is what says that the sums fit
+        let _count = self.pages.len();
         self.pages.move_index(self.gone + place, self.gone);
         self.gone += 1;
         slot
@@ -128,10 +136,10 @@ impl Order {
         requires { place < length self.old }
         ensures { (e : ℕ × ℕ) → slice_get self.old place ≡ Some e → self.new ≡ remove self.old place ++ e ∷ [] }
     {
-        let place = self.gone + place;
         let last = self.pages.len() - 1;
-        if place < last {
-            self.pages.move_index(place, last);
+        let from = self.gone + place;
+        if from < last {
+            self.pages.move_index(from, last);
         }
     }
 

@@ -1,9 +1,10 @@
 -- The entries of a map behind those in front, which are of pages that went: where a page stands among them, and
 -- what they are once an entry was moved.
-use Rattle.std.proofs.Common.{◌≡◌, ℕ, suc, ◌+◌, ◌-◌, ◌<◌, ◌≤◌, ◌==◌, nat_eq, nat_lt, Bool, true, false, cond, List, [], ◌∷◌, ◌++◌, length, take, drop, get_or, insert, remove, slice_get, position, Option, Some, None, IsSome, refl, sym, ap, subst, ◌∙◌, arith, ne_eqb}
+use Rattle.std.proofs.Common.{◌≡◌, ℕ, zero, suc, ◌+◌, ◌-◌, ◌<◌, ◌≤◌, ◌==◌, nat_eq, nat_lt, Bool, true, false, cond, List, [], ◌∷◌, ◌++◌, length, take, drop, get_or, map, insert, remove, slice_get, position, Option, Some, None, IsSome, refl, sym, ap, subst, ◌∙◌, arith, ne_eqb}
 use Rattle.std.specs.List.{find, count_by, position_or_len, AllByRecursion, IsDistinct}
-use Rattle.std.specs.Map.{keys_of}
-use Rattle.std.specs.Option.{option_map_or}
+use Rattle.std.specs.Map.{keys_of, lookup}
+use Rattle.std.specs.Option.{option_map, option_map_or, option_to_list}
+use Rattle.std.specs.Set.{remove_key}
 use Rattle.std.proofs.Math.Seq.{take-length, drop-length, drop-append-add}
 use Rattle.std.proofs.lemmas.Bool.{eq-eqb}
 use Rattle.std.proofs.lemmas.List.{append-nil, drop_all, drop-append-le, drop-drop, drop-take, get_or-drop, get_or-map, get_or-take, length-drop, length-map, length-take-le, take_all, take_more}
@@ -12,13 +13,15 @@ use Rattle.std.proofs.lemmas.List.Folds.{find_at}
 use Rattle.std.proofs.lemmas.List.Quantifiers.{position-Some}
 use Rattle.std.proofs.lemmas.List.Sums.{get_or-le-sum_by, sum_by-cons, sum_by-take-drop}
 use Rattle.std.proofs.lemmas.Map.Keys.{IsDistinct-head, IsDistinct-tail}
-use Rattle.std.proofs.lemmas.Option.{get_or_from_slice_get, slice_get-get_or, slice_get_past, slice_get_within}
+use Rattle.std.proofs.lemmas.Option.{get_or_from_slice_get, slice_get-get_or, slice_get-map, slice_get_past, slice_get_within}
 use Rattle.hb_lemmas.proofs.Booleans.{if_below, if_same}
 use Rattle.hb_lemmas.proofs.Lists.{mapped_place}
-use Rattle.indexmap.specs.IndexMap.{move_index}
+use Rattle.hb_lemmas.proofs.Options.{some_value}
+use borrow.Author.Tests.{eqb-true}
+use Rattle.indexmap.specs.IndexMap.{move_index, set_value_at}
 use Rattle.hb_pool.specs.Slots.{is_page, entry_of}
 use Rattle.hb_pool.proofs.Facts.Behind.{none_found, nowhere, only_place}
-use Rattle.hb_pool.proofs.Facts.Firsts.{no_place_found, none_counted}
+use Rattle.hb_pool.proofs.Facts.Firsts.{no_place_found, none_counted, remove_first}
 use Rattle.hb_pool.proofs.Facts.Told.{told_count}
 
 -- ---- where a page stands
@@ -97,6 +100,11 @@ stands_nowhere id g xs is =
     let none = absent_counted id xs is in
     let parts = sum_by-take-drop (λ (y : ℕ × ℕ). cond (is_page id y) 1 0) xs g in
     none_behind id g xs (omega (arith, none, parts))
+
+-- then it stands past the last, as the order is seen
+pub counted_as : (id : ℕ) (order seen : List (ℕ × ℕ)) (ids : List ℕ) → order ≡ seen → ids ≡ keys_of seen → length order ≡ position_or_len (is_page id) order → length ids ≡ position_or_len (is_page id) seen
+counted_as id order seen ids same is past =
+    ap length is ∙ length-map seen (λ (e : ℕ × ℕ). e.0) ∙ subst (λ (o : List (ℕ × ℕ)). length o ≡ position_or_len (is_page id) o) same past
 
 -- one whose number was seen at a place
 pub stands_there : (id : ℕ) (order : List (ℕ × ℕ)) (ids : List ℕ) (place : ℕ) → count_by (is_page id) order ≤ 1 → ids ≡ keys_of order → slice_get ids place ≡ Some id → place ≡ position_or_len (is_page id) order
@@ -190,3 +198,59 @@ module _ {X : Type 0} where
       ap (drop (g - 1)) is
       ∙ drop-append-le (g - 1) (remove xs k) (x ∷ []) (omega (arith, long, le))
       ∙ ap (λ ys. ys ++ x ∷ []) (removed_in_front g k xs lt (omega (arith, lt, le)))
+
+-- the last entry gets another slot
+pub last_written : (front : List (ℕ × ℕ)) (n id old slot : ℕ) → n ≡ length front → set_value_at (front ++ (id, old) ∷ []) n slot ≡ front ++ (id, slot) ∷ []
+last_written front n id old slot at = ap (λ k. set_value_at (front ++ (id, old) ∷ []) k slot) at ∙ by front
+  where
+    by : (es : List (ℕ × ℕ)) → set_value_at (es ++ (id, old) ∷ []) (length es) slot ≡ es ++ (id, slot) ∷ []
+    by [] = refl
+    by (e ∷ es) = ap (λ fs. e ∷ fs) (by es)
+
+-- ---- an entry at its place
+
+-- the numbers of the slots tell that of the page's
+pub number_looked_up : (id : ℕ) (order : List (ℕ × ℕ)) (ns : List ℕ) (place : ℕ) → ns ≡ map (λ (e : ℕ × ℕ). e.1) order → place ≡ position_or_len (is_page id) order → slice_get ns place ≡ option_map (λ (e : ℕ × ℕ). e.1) (entry_of order id)
+number_looked_up id order ns place are at =
+    (λ j. slice_get (are j) (at j))
+    ∙ slice_get-map (λ (e : ℕ × ℕ). e.1) order (position_or_len (is_page id) order)
+    ∙ ap (option_map (λ (e : ℕ × ℕ). e.1)) (sym (find_at (is_page id) order))
+
+pub number_in_range : (id : ℕ) (order : List (ℕ × ℕ)) (ns : List ℕ) (place : ℕ) → ns ≡ map (λ (e : ℕ × ℕ). e.1) order → place ≡ position_or_len (is_page id) order → IsSome (entry_of order id) → place < length ns
+number_in_range id order ns place are at there =
+    let e = some_value (entry_of order id) there in
+    slice_get_within ns place e.0.1 (number_looked_up id order ns place are at ∙ ap (option_map (λ (x : ℕ × ℕ). x.1)) e.1)
+
+pub number_there : (id : ℕ) (order : List (ℕ × ℕ)) (ns : List ℕ) (place : ℕ) → ns ≡ map (λ (e : ℕ × ℕ). e.1) order → place ≡ position_or_len (is_page id) order → IsSome (entry_of order id) → option_map (λ (e : ℕ × ℕ). e.1) (entry_of order id) ≡ Some (get_or ns place 0)
+number_there id order ns place are at there =
+    sym (number_looked_up id order ns place are at) ∙ slice_get-get_or ns place 0 (number_in_range id order ns place are at there)
+
+pub place_in_range : (id : ℕ) (order : List (ℕ × ℕ)) (place : ℕ) → place ≡ position_or_len (is_page id) order → IsSome (entry_of order id) → place < length order
+place_in_range id order place at there =
+    let e = some_value (entry_of order id) there in
+    slice_get_within order place e.0 (ap (slice_get order) at ∙ sym (find_at (is_page id) order) ∙ e.1)
+
+-- it stands last
+pub touched : (id : ℕ) (order news : List (ℕ × ℕ)) (place : ℕ) → place ≡ position_or_len (is_page id) order → IsSome (entry_of order id) → ((e : ℕ × ℕ) → slice_get order place ≡ Some e → news ≡ remove order place ++ e ∷ []) → news ≡ remove_key (is_page id) order ++ option_to_list (entry_of order id)
+touched id order news place at there put =
+    let e = some_value (entry_of order id) there in
+    put e.0 (ap (slice_get order) at ∙ sym (find_at (is_page id) order) ∙ e.1)
+    ∙ ap (λ (o : List (ℕ × ℕ)). o ++ e.0 ∷ []) (ap (remove order) at ∙ remove_first (is_page id) order)
+    ∙ ap (λ o. remove_key (is_page id) order ++ option_to_list o) (sym e.1)
+
+-- ---- an entry of the map
+
+pub entry_at : (id : ℕ) (xs : List (ℕ × ℕ)) (place : ℕ) → Some place ≡ position (nat_eq id) (keys_of xs) → (old : ℕ) × (slice_get xs place ≡ Some (id, old))
+entry_at id xs place is =
+    let at = key_there id xs place is (0, 0) in
+    let e = get_or xs place (0, 0) in
+    (e.1, slice_get-get_or xs place (0, 0) at.0 ∙ ap (λ k. Some (k, e.1)) (eqb-true e.0 id at.1))
+
+-- what the map lacks it lacks without its front
+pub absent_behind : (id n : ℕ) (xs : List (ℕ × ℕ)) → lookup (nat_eq id) xs ≡ None → lookup (nat_eq id) (drop n xs) ≡ None
+absent_behind id zero xs none = none
+absent_behind id (suc n) [] none = refl
+absent_behind id (suc n) (x ∷ xs) none = elim (nat_eq id x.0) as (λ b. cond b (Some x.1) (lookup (nat_eq id) xs) ≡ None → lookup (nat_eq id) (drop n xs) ≡ None) [
+  | true ↦ λ is. absurd cc
+  | false ↦ λ rest. absent_behind id n xs rest
+] none
