@@ -104,7 +104,7 @@ module _ (slots : List Content) (id n : ℕ) (new : Content) (change : Frame (Li
       let most : cond {A = ℕ} (is_slot n e) 1 0 + count_by (is_slot n) es ≤ 1 = subst (λ k. k ≤ 1) (sum_by-cons (λ (x : ℕ × ℕ). cond (is_slot n x) 1 0) e es) few in
       elim (is_page id e) as (λ b. cond b (Some e) (entry_of es id) ≡ Some (id, n) → frames_in (e ∷ es) (set slots n new) ≡ cond b (change (frame_at slots e) ∷ frames_in es slots) (frame_at slots e ∷ change_first (has_id id) change (frames_in es slots))) [
         | true ↦ λ here. let same : e ≡ (id, n) = cc in at_first e es same most
-        | false ↦ λ later. at_later e es later most
+        | false ↦ λ later. at_later e es later most (λ fits. frames_changed es later fits)
       ] is
     where
       at_first : (e : ℕ × ℕ) (es : List (ℕ × ℕ)) → e ≡ (id, n) → cond {A = ℕ} (is_slot n e) 1 0 + count_by (is_slot n) es ≤ 1 → frames_in (e ∷ es) (set slots n new) ≡ change (frame_at slots e) ∷ frames_in es slots
@@ -114,12 +114,12 @@ module _ (slots : List Content) (id n : ℕ) (new : Content) (change : Frame (Li
           ap (frame_at (set slots n new)) same ∙ ap (framed id) (get_or-set_same slots n new empty_slot there) ∙ made ∙ ap (λ (x : ℕ × ℕ). change (frame_at slots x)) (sym same) in
           (λ j. head j ∷ unseen_slot slots n new es (omega (arith, one, most)) j)
 
-      at_later : (e : ℕ × ℕ) (es : List (ℕ × ℕ)) → entry_of es id ≡ Some (id, n) → cond {A = ℕ} (is_slot n e) 1 0 + count_by (is_slot n) es ≤ 1 → frames_in (e ∷ es) (set slots n new) ≡ frame_at slots e ∷ change_first (has_id id) change (frames_in es slots)
-      at_later e es later most =
+      at_later : (e : ℕ × ℕ) (es : List (ℕ × ℕ)) → entry_of es id ≡ Some (id, n) → cond {A = ℕ} (is_slot n e) 1 0 + count_by (is_slot n) es ≤ 1 → (count_by (is_slot n) es ≤ 1 → frames_in es (set slots n new) ≡ change_first (has_id id) change (frames_in es slots)) → frames_in (e ∷ es) (set slots n new) ≡ frame_at slots e ∷ change_first (has_id id) change (frames_in es slots)
+      at_later e es later most rest =
           let one = counted_there (is_page id) es (id, n) later in
           if_same e.1 n (λ b. cond b 1 0 + count_by (is_slot n) es ≤ 1 → frames_in (e ∷ es) (set slots n new) ≡ frame_at slots e ∷ change_first (has_id id) change (frames_in es slots))
           (λ same over. absurd (omega (arith, one, over)))
-          (λ other fits. (λ j. framed e.0 (get_or-set_other slots n e.1 new empty_slot other j) ∷ frames_changed es later (omega arith) j))
+          (λ other fits. (λ j. framed e.0 (get_or-set_other slots n e.1 new empty_slot other j) ∷ rest (omega arith) j))
           most
 
 pub slots_changed : (order : List (ℕ × ℕ)) (slots : List Content) (n : ℕ) (new : Content) → HaveSlots order slots → HaveSlots order (set slots n new)
@@ -169,3 +169,15 @@ slots_more order slots id new old =
       there = All-push P order (id, length slots) (All-weaker (λ (x : ℕ × ℕ). x.1 < length slots) P (λ x lt. omega (arith, lt, long)) order old.there) (omega (arith, long));
       used = let all = old.used in let joined = length-append order ((id, length slots) ∷ []) in omega (arith, all, joined, long);
     }
+
+-- a page that is in a frame has an entry
+pub entry_there : (order : List (ℕ × ℕ)) (slots : List Content) (id : ℕ) → IsSome (frame_of (frames_in order slots) id) → IsSome (entry_of order id)
+entry_there order slots id there = by (entry_of order id) (subst IsSome (found slots order id) there)
+  where
+    by : (o : Option (ℕ × ℕ)) → IsSome (option_map (frame_at slots) o) → IsSome o
+    by None some = some
+    by (Some e) some = refl
+
+-- and one without an entry is in none
+pub found_none : (order : List (ℕ × ℕ)) (slots : List Content) (id : ℕ) → option_map (λ (e : ℕ × ℕ). e.1) (entry_of order id) ≡ None → frame_of (frames_in order slots) id ≡ None
+found_none order slots id none = found slots order id ∙ ap (option_map (frame_at slots)) (none_mapped (λ (e : ℕ × ℕ). e.1) (entry_of order id) none)
