@@ -5,7 +5,7 @@ use Rattle.std.specs.Option.{option_map, option_to_list}
 use Rattle.std.specs.Set.{remove_key}
 use Rattle.std.proofs.Math.ListN.{set}
 use Rattle.std.proofs.lemmas.Bool.{eq-eqb}
-use Rattle.std.proofs.lemmas.List.{get_or-set_same, get_or-set_other, get_or_append_left, get_or_push, length-set, length-map, map-append, map_push}
+use Rattle.std.proofs.lemmas.List.{get_or-set_same, get_or-set_other, get_or_append_left, get_or_push, get_or_read, length-set, map_push}
 use Rattle.std.proofs.lemmas.List.Elements.{All-append, All-head, All-tail, All-push, All-weaker}
 use Rattle.std.proofs.lemmas.List.Sums.{sum_by-cons, sum_by_push}
 use Rattle.std.proofs.lemmas.Map.Views.{All-remove_key}
@@ -181,3 +181,7 @@ entry_there order slots id there = by (entry_of order id) (subst IsSome (found s
 -- and one without an entry is in none
 pub found_none : (order : List (ℕ × ℕ)) (slots : List Content) (id : ℕ) → option_map (λ (e : ℕ × ℕ). e.1) (entry_of order id) ≡ None → frame_of (frames_in order slots) id ≡ None
 found_none order slots id none = found slots order id ∙ ap (option_map (frame_at slots)) (none_mapped (λ (e : ℕ × ℕ). e.1) (entry_of order id) none)
+
+-- what was read of a slot whose number the order tells
+pub slot_read : (slots : List Content) (numbers : List ℕ) (i : ℕ) (slot : Content) → All (λ n. n < length slots) numbers → i < length numbers → slot ≡ get_or slots (get_or numbers i 0) slot → slot ≡ get_or slots (get_or numbers i 0) empty_slot
+slot_read slots numbers i slot there lt is = get_or_read slots (get_or numbers i 0) slot (there i 0 lt) is empty_slot
