@@ -1,6 +1,7 @@
 pub mod Behind
 pub mod Firsts
 pub mod Front
+pub mod Leaving
 pub mod Lodged
 pub mod Others
 pub mod Pooled

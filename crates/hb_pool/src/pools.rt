@@ -148,7 +148,12 @@ impl Pool {
         ensures dirty { IfSome result (λ id. IsSomeAnd (frame_of self.now id) (λ f. IsTrue f.dirty)) }
     {
         let place = first_dirty(&self.slots, self.order.slots());
-        self.order.ids().get(place).copied()
+        let ids = self.order.ids();
+        if place < ids.len() {
+            Some(ids[place])
+        } else {
+            None
+        }
     }
 
     /// The page is no longer dirty. The order stays.

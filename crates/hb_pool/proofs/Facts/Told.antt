@@ -1,6 +1,6 @@
 -- The order of use is told without the pages' bytes.
-use Rattle.std.proofs.Common.{◌≡◌, ◌+◌, ◌-◌, ◌≤◌, nat_lt, Bool, true, false, cond, List, [], ◌∷◌, ◌++◌, length, map, All, Option, Some, None, refl, sym, ap, subst, ◌∙◌}
-use Rattle.std.specs.List.{find, count_by}
+use Rattle.std.proofs.Common.{◌≡◌, ◌+◌, ◌-◌, ◌≤◌, nat_lt, Bool, true, false, not, cond, List, [], ◌∷◌, ◌++◌, length, map, All, Option, Some, None, refl, sym, ap, subst, ◌∙◌}
+use Rattle.std.specs.List.{find, count_by, position_or_len}
 use Rattle.std.specs.Option.{option_map, option_to_list}
 use Rattle.std.specs.Set.{remove_key}
 use Rattle.std.proofs.lemmas.List.{map-append, length-map}
@@ -19,6 +19,10 @@ module _ {X Y : Type 0} (h : X → Y) (q : Y → Bool) where
     | true ↦ refl
     | false ↦ told_find xs
   ]
+
+  pub told_place : (xs : List X) → position_or_len q (map h xs) ≡ position_or_len (λ x. q (h x)) xs
+  told_place [] = refl
+  told_place (x ∷ xs) = ap (λ n. cond (not (q (h x))) (1 + n) 0) (told_place xs)
 
   pub told_removed : (xs : List X) → map h (remove_key (λ x. q (h x)) xs) ≡ remove_key q (map h xs)
   told_removed [] = refl

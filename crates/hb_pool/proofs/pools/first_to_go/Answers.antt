@@ -10,13 +10,13 @@ pub returns-then-not-must_stay : goal.returns-then-not-must_stay
 returns-then-not-must_stay c =
     let seen = slot_read c.args.slots.now c.args.order.now c.loop-place.place c.index-slots-order.result c.requires c.loop-place-test.true c.index-slots-order.is in
     sym (position_or_len_is (λ n. may_go (framed 0 (get_or c.args.slots.now n empty_slot))) c.args.order.now c.loop-place.place 0 (omega arith) c.loop-place.invariant
-    (λ lt. ap (λ (s : Content). may_go (framed 0 s)) (sym seen) ∙ ap not (sym (c.must_stay.ensures 0)) ∙ c.if-not-must_stay.true))
+    (λ lt. ap (λ (s : Content). may_go (framed 0 s)) (sym seen) ∙ ap not (sym (c.must_stay.ensures 0) ∙ c.if-not-must_stay.true)))
 
 pub loop-place-preserved : goal.loop-place-preserved
 loop-place-preserved c =
     let seen = slot_read c.args.slots.now c.args.order.now c.loop-place.place c.index-slots-order.result c.requires c.loop-place-test.true c.index-slots-order.is in
     below_more (λ k. may_go (framed 0 (get_or c.args.slots.now (get_or c.args.order.now k 0) empty_slot)) ≡ false) c.loop-place.place c.loop-place.invariant
-    (ap (λ (s : Content). may_go (framed 0 s)) (sym seen) ∙ ap not (sym (c.must_stay.ensures 0)) ∙ c.if-not-must_stay.false)
+    (ap (λ (s : Content). may_go (framed 0 s)) (sym seen) ∙ ap not (sym (c.must_stay.ensures 0) ∙ c.if-not-must_stay.false))
 
 pub returns : goal.returns
 returns c =
