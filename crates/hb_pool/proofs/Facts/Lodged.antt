@@ -1,12 +1,14 @@
 -- What a pool keeps is kept where what lies in a slot changes, and where a page comes in.
-use Rattle.std.proofs.Common.{◌≡◌, ℕ, ◌+◌, ◌-◌, ◌<◌, ◌≤◌, not, true, cond, List, [], ◌∷◌, ◌++◌, length, get_or, map, Option, Some, None, IsSome, slice_get, refl, sym, ap, subst, ◌∙◌, arith}
+use Rattle.std.proofs.Common.{◌≡◌, ℕ, ◌+◌, ◌-◌, ◌<◌, ◌≤◌, Bool, not, true, cond, List, [], ◌∷◌, ◌++◌, length, get_or, map, Option, Some, None, IsSome, slice_get, refl, sym, ap, subst, ◌∙◌, arith}
 use Rattle.std.specs.Option.{option_map, option_to_list}
 use Rattle.std.specs.Set.{remove_key}
 use Rattle.std.proofs.Math.ListN.{set}
 use Rattle.std.proofs.lemmas.List.{get_or_default, length-map}
 use Rattle.hb_space.specs.declared.form.TheConstants.{PAGE}
-use Rattle.hb_pool.specs.Frames.{Frame, has_id, must_stay}
-use Rattle.hb_pool.specs.Pools.{frame_of, put_last, in_place}
+use Rattle.hb_lemmas.proofs.Booleans.{if_below}
+use Rattle.hb_pool.specs.declared.pools.TheConstants.{FRAMES}
+use Rattle.hb_pool.specs.Frames.{Frame, has_id, must_stay, may_go, fresh}
+use Rattle.hb_pool.specs.Pools.{frame_of, put_last, in_place, brought}
 use Rattle.hb_pool.specs.Slots.{Content, empty_slot, framed, is_page, entry_of, frames_in, frame_at, HaveSlots}
 use Rattle.hb_pool.specs.Kept.{FramesKeep, PoolKeeps}
 use Rattle.hb_pool.proofs.Facts.Pooled.{kept_last, kept_changed}
@@ -63,3 +65,19 @@ kept_in_place order slots room spare held one id n slot new change old lies seen
       (counts ∙ ap (λ (h : Frame (List ℕ)). cond (not (must_stay h)) 1 0) made) (ap (λ (h : Frame (List ℕ)). h.id) (sym made)) (subst (λ (h : Frame (List ℕ)). h.pins ≤ 255) made few) (subst (λ (h : Frame (List ℕ)). length h.bytes ≡ PAGE) made whole) stayed;
   each = slots_changed order slots n new old.each;
 }
+
+-- ---- a page comes in
+
+pub brought_more : (pool items : List (Frame (List ℕ))) (room spare held id : ℕ) (bytes : List ℕ) (dirty : Bool) (f : Frame (List ℕ)) → FramesKeep pool room spare held → 0 < spare → items ≡ pool ++ f ∷ [] → f ≡ fresh id bytes dirty → items ≡ brought id bytes dirty pool
+brought_more pool items room spare held id bytes dirty f old some is new =
+    let all = old.blocks in
+    is ∙ ap (λ (g : Frame (List ℕ)). pool ++ g ∷ []) new
+    ∙ if_below (length pool) FRAMES (λ b. pool ++ fresh id bytes dirty ∷ [] ≡ cond b pool (remove_key may_go pool) ++ fresh id bytes dirty ∷ [])
+        (λ lt. refl) (λ le. absurd (omega arith))
+
+pub brought_full : (pool items : List (Frame (List ℕ))) (room spare held id : ℕ) (bytes : List ℕ) (dirty : Bool) → FramesKeep pool room spare held → spare ≡ 0 → items ≡ remove_key may_go pool ++ fresh id bytes dirty ∷ [] → items ≡ brought id bytes dirty pool
+brought_full pool items room spare held id bytes dirty old none is =
+    let all = old.blocks in
+    is
+    ∙ if_below (length pool) FRAMES (λ b. remove_key may_go pool ++ fresh id bytes dirty ∷ [] ≡ cond b pool (remove_key may_go pool) ++ fresh id bytes dirty ∷ [])
+        (λ lt. absurd (omega arith)) (λ le. refl)
