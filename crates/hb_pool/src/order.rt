@@ -160,7 +160,11 @@ impl Order {
         let count = self.ids().len();
         match self.pages.get_index_of(&id) {
             Some(place) => {
-                if self.gone <= place { place - self.gone } else { count }
+                if self.gone <= place {
+                    place - self.gone
+                } else {
+                    count
+                }
             }
             None => count,
         }

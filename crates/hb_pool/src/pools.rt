@@ -211,13 +211,7 @@ fn add_last(order: &mut Order, slots: &mut Vec<Slot>, id: u32, slot: Slot)
 }
 
 // The page comes into the slot of the first one that may go, which leaves the order.
-fn replace_first(
-    order: &mut Order,
-    slots: &mut Vec<Slot>,
-    id: u32,
-    bytes: &[u8; PAGE],
-    dirty: bool,
-)
+fn replace_first(order: &mut Order, slots: &mut Vec<Slot>, id: u32, bytes: &[u8; PAGE], dirty: bool)
     requires absent { entry_of order.old id ≡ None }
     requires few { length order.old ≤ FRAMES }
     requires there { IsSome (find may_go (frames_in order.old slots.old.items)) }

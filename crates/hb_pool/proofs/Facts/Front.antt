@@ -1,6 +1,6 @@
 -- The entries of a map behind those in front, which are of pages that went: where a page stands among them, and
 -- what they are once an entry was moved.
-use Rattle.std.proofs.Common.{◌≡◌, ℕ, zero, suc, ◌+◌, ◌-◌, ◌<◌, ◌≤◌, ◌==◌, nat_eq, nat_lt, Bool, true, false, cond, List, [], ◌∷◌, ◌++◌, length, take, drop, get_or, map, insert, remove, slice_get, position, Option, Some, None, IsSome, refl, sym, ap, subst, ◌∙◌, arith, ne_eqb}
+use Rattle.std.proofs.Common.{◌≡◌, ℕ, zero, suc, ◌+◌, ◌-◌, ◌<◌, ◌≤◌, nat_eq, true, false, cond, List, [], ◌∷◌, ◌++◌, length, take, drop, get_or, map, insert, remove, slice_get, position, Some, None, IsSome, refl, sym, ap, subst, ◌∙◌, arith, ne_eqb}
 use Rattle.std.specs.List.{find, count_by, position_or_len, AllByRecursion, IsDistinct}
 use Rattle.std.specs.Map.{keys_of, lookup}
 use Rattle.std.specs.Option.{option_map, option_map_or, option_to_list}
@@ -80,8 +80,8 @@ stands_in_front id g xs place distinct is lt =
     let f : ℕ × ℕ → ℕ = λ y. cond (is_page id y) 1 0 in
     let at = key_there id xs place is d in
     let within : place < length (take g xs) = if_below g (length xs) (λ b. place < length (take g xs))
-        (λ less. let long = length-take-le g xs (omega arith) in omega (arith, long, lt))
-        (λ le. let whole = ap length (take_all g xs le) in omega (arith, whole, at.0)) in
+    (λ less. let long = length-take-le g xs (omega arith) in omega (arith, long, lt))
+    (λ le. let whole = ap length (take_all g xs le) in omega (arith, whole, at.0)) in
     let most = get_or-le-sum_by f (take g xs) place d within in
     let one : f (get_or (take g xs) place d) ≡ 1 = ap f (get_or-take g xs place d lt) ∙ ap (λ b. cond {A = ℕ} b 1 0) at.1 in
     let parts = sum_by-take-drop f xs g in

@@ -1,5 +1,5 @@
 -- The first page that may go is found by the order and the slots, and so is the first dirty one.
-use Rattle.std.proofs.Common.{◌≡◌, ℕ, ◌+◌, ◌<◌, ◌==◌, Bool, true, List, [], ◌∷◌, ◌++◌, length, get_or, map, remove, slice_get, All, Option, Some, None, IsSome, IsTrue, refl, sym, ap, subst, ◌∙◌, arith}
+use Rattle.std.proofs.Common.{◌≡◌, ℕ, ◌+◌, ◌<◌, ◌==◌, Bool, List, [], ◌∷◌, ◌++◌, length, get_or, map, remove, slice_get, All, Option, Some, None, IsSome, IsTrue, refl, sym, ap, subst, ◌∙◌}
 use Rattle.std.specs.List.{find, position_or_len}
 use Rattle.std.specs.Option.{option_map, IsSomeAnd, IfSome}
 use Rattle.std.specs.Set.{remove_key}

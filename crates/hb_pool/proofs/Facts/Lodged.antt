@@ -1,9 +1,9 @@
 -- What a pool keeps is kept where what lies in a slot changes, and where a page comes in.
-use Rattle.std.proofs.Common.{◌≡◌, ℕ, ◌+◌, ◌-◌, ◌<◌, ◌≤◌, Bool, not, true, cond, List, [], ◌∷◌, ◌++◌, length, get_or, map, Option, Some, None, IsSome, slice_get, refl, sym, ap, subst, ◌∙◌, arith}
+use Rattle.std.proofs.Common.{◌≡◌, ℕ, ◌+◌, ◌-◌, ◌<◌, ◌≤◌, Bool, not, true, cond, List, [], ◌∷◌, ◌++◌, length, get_or, map, Some, refl, sym, ap, subst, ◌∙◌, arith}
 use Rattle.std.specs.Option.{option_map, option_to_list}
 use Rattle.std.specs.Set.{remove_key}
 use Rattle.std.proofs.Math.ListN.{set}
-use Rattle.std.proofs.lemmas.List.{get_or_default, length-map}
+use Rattle.std.proofs.lemmas.List.{get_or_default}
 use Rattle.hb_space.specs.declared.form.TheConstants.{PAGE}
 use Rattle.hb_lemmas.proofs.Booleans.{if_below}
 use Rattle.hb_pool.specs.declared.pools.TheConstants.{FRAMES}
@@ -73,11 +73,11 @@ brought_more pool items room spare held id bytes dirty f old some is new =
     let all = old.blocks in
     is ∙ ap (λ (g : Frame (List ℕ)). pool ++ g ∷ []) new
     ∙ if_below (length pool) FRAMES (λ b. pool ++ fresh id bytes dirty ∷ [] ≡ cond b pool (remove_key may_go pool) ++ fresh id bytes dirty ∷ [])
-        (λ lt. refl) (λ le. absurd (omega arith))
+    (λ lt. refl) (λ le. absurd (omega arith))
 
 pub brought_full : (pool items : List (Frame (List ℕ))) (room spare held id : ℕ) (bytes : List ℕ) (dirty : Bool) → FramesKeep pool room spare held → spare ≡ 0 → items ≡ remove_key may_go pool ++ fresh id bytes dirty ∷ [] → items ≡ brought id bytes dirty pool
 brought_full pool items room spare held id bytes dirty old none is =
     let all = old.blocks in
     is
     ∙ if_below (length pool) FRAMES (λ b. remove_key may_go pool ++ fresh id bytes dirty ∷ [] ≡ cond b pool (remove_key may_go pool) ++ fresh id bytes dirty ∷ [])
-        (λ lt. absurd (omega arith)) (λ le. refl)
+    (λ lt. absurd (omega arith)) (λ le. refl)

@@ -1,23 +1,22 @@
 -- What lies in one slot changes, and the frames that the order of use makes of all slots change as they should.
-use Rattle.std.proofs.Common.{◌≡◌, ◌≢◌, ℕ, ◌+◌, ◌<◌, ◌≤◌, ◌==◌, nat_lt, Bool, true, false, not, cond, List, [], ◌∷◌, ◌++◌, length, get_or, map, All, Option, Some, None, IsSome, slice_get, refl, sym, ap, subst, ◌∙◌, arith, length-append}
-use Rattle.std.specs.List.{find, count_by, position_or_len, remove}
-use Rattle.std.specs.Option.{option_map, option_to_list}
+use Rattle.std.proofs.Common.{◌≡◌, ℕ, ◌+◌, ◌<◌, ◌≤◌, Bool, true, false, cond, List, [], ◌∷◌, ◌++◌, length, get_or, All, Option, Some, None, IsSome, refl, sym, ap, subst, ◌∙◌, arith, length-append}
+use Rattle.std.specs.List.{find, count_by, position_or_len}
+use Rattle.std.specs.Option.{option_map}
 use Rattle.std.specs.Set.{remove_key}
 use Rattle.std.proofs.Math.ListN.{set}
 use Rattle.std.proofs.lemmas.Bool.{eq-eqb}
 use Rattle.std.proofs.lemmas.List.{get_or-set_same, get_or-set_other, get_or_append_left, get_or_push, get_or_read, length-set, map_push}
-use Rattle.std.proofs.lemmas.List.Elements.{All-append, All-head, All-tail, All-push, All-weaker}
+use Rattle.std.proofs.lemmas.List.Elements.{All-head, All-tail, All-push, All-weaker}
 use Rattle.std.proofs.lemmas.List.Sums.{sum_by-cons, sum_by_push}
 use Rattle.std.proofs.lemmas.Map.Views.{All-remove_key}
 use borrow.Author.Tests.{eqb-true}
 use Rattle.hb_lemmas.proofs.Booleans.{if_same}
-use Rattle.hb_lemmas.proofs.Lists.{All-alone}
 use Rattle.hb_lemmas.proofs.Options.{some_of_map, none_mapped}
 use Rattle.hb_pool.specs.Frames.{Frame, has_id}
 use Rattle.hb_pool.specs.Pools.{change_first, frame_of}
 use Rattle.hb_pool.specs.Slots.{Content, empty_slot, framed, is_page, is_slot, entry_of, frame_at, frames_in, HaveSlots}
 use Rattle.hb_pool.proofs.Facts.Firsts.{first_passes, first_there, first_within, length_without, count_without}
-use Rattle.hb_pool.proofs.Facts.Told.{told_find, told_removed}
+use Rattle.hb_pool.proofs.Facts.Told.{told_find}
 
 -- ---- the entry of a page
 

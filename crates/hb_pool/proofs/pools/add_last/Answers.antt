@@ -1,5 +1,5 @@
 use Rattle.std.proofs.Common.{◌≡◌, ℕ, List, ◌∷◌, ◌++◌, [], length, sym, ap, subst, ◌∙◌, arith}
-use Rattle.hb_pool.specs.Slots.{HaveSlots, framed, frames_in}
+use Rattle.hb_pool.specs.Slots.{HaveSlots, frames_in}
 use Rattle.hb_pool.proofs.Facts.Slotted.{frames_more, slots_more}
 use Rattle.hb_pool.proofs.pools.add_last.Goals as goal
 

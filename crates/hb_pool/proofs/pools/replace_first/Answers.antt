@@ -1,4 +1,4 @@
-use Rattle.std.proofs.Common.{◌≡◌, ◌<◌, ◌∷◌, ◌++◌, [], ℕ, List, length, None, sym, ap, subst, ◌∙◌, arith}
+use Rattle.std.proofs.Common.{◌∷◌, ◌++◌, [], ℕ, List, length, ap, ◌∙◌, arith}
 use Rattle.std.specs.Set.{remove_key}
 use Rattle.hb_pool.specs.Frames.{Frame, may_go}
 use Rattle.hb_pool.specs.Slots.{entry_of, frames_in}

@@ -1,4 +1,4 @@
-use Rattle.std.proofs.Common.{◌≡◌, ℕ, ◌≤◌, List, drop, map, count_by, ap, subst, ◌∙◌}
+use Rattle.std.proofs.Common.{ℕ, ◌≤◌, List, drop, map, count_by, ap, subst, ◌∙◌}
 use Rattle.std.proofs.lemmas.List.{drop-map, take_rest}
 use Rattle.hb_pool.specs.Slots.{is_page}
 use Rattle.hb_pool.proofs.Facts.Front.{once_behind}

@@ -1,4 +1,4 @@
-use Rattle.std.proofs.Common.{◌≡◌, ◌-◌, ◌<◌, nat_eq, ℕ, List, None, drop, ◌∷◌, ◌++◌, [], sym, ap, subst, ◌∙◌, arith}
+use Rattle.std.proofs.Common.{◌≡◌, ◌-◌, nat_eq, ℕ, List, None, ◌∷◌, ◌++◌, [], sym, ap, subst, ◌∙◌, arith}
 use Rattle.std.specs.Map.{lookup}
 use Rattle.hb_lemmas.proofs.Options.{none_so}
 use Rattle.hb_pool.specs.Slots.{entry_of}
@@ -8,13 +8,13 @@ use Rattle.hb_pool.proofs.order.Order.insert.Goals as goal
 pub overflow_sub-self : goal.overflow_sub-self
 overflow_sub-self c =
     let lt = was_in_front c.args.id c.self.inside.gone c.self.inside.pages.entries c.in-Some.place c.get_index_of.ensures.unique c.in-Some.ensures.index
-        (subst (λ (o : List (ℕ × ℕ)). entry_of o c.args.id ≡ None) (sym c.self.view_is) c.requires.absent) in
+    (subst (λ (o : List (ℕ × ℕ)). entry_of o c.args.id ≡ None) (sym c.self.view_is) c.requires.absent) in
     omega (arith, lt)
 
 pub returns-in-Some : goal.returns-in-Some
 returns-in-Some c =
     let lt = was_in_front c.args.id c.self.inside.gone c.self.inside.pages.entries c.in-Some.place c.get_index_of.ensures.unique c.in-Some.ensures.index
-        (subst (λ (o : List (ℕ × ℕ)). entry_of o c.args.id ≡ None) (sym c.self.view_is) c.requires.absent) in
+    (subst (λ (o : List (ℕ × ℕ)). entry_of o c.args.id ≡ None) (sym c.self.view_is) c.requires.absent) in
     let old = entry_at c.args.id c.self.inside.pages.entries c.in-Some.place c.in-Some.ensures.index in
     back_behind c.self.inside.gone c.in-Some.place c.self.inside.pages.entries _ (c.args.id, c.args.slot) lt c.self.invariant.within (c.come_back.ensures.entries c.args.id old.0 old.1)
     ∙ ap (λ (o : List (ℕ × ℕ)). o ++ (c.args.id, c.args.slot) ∷ []) c.self.view_is

@@ -1,4 +1,3 @@
-use Rattle.std.proofs.Common.{ℕ}
 use Rattle.hb_pool.proofs.Facts.Front.{stands_there}
 use Rattle.hb_pool.proofs.order.Order.place.Goals as goal
 

@@ -1,6 +1,5 @@
-use Rattle.std.proofs.Common.{ℕ, List, ◌∙◌, length, ap, map, position, sym, subst}
+use Rattle.std.proofs.Common.{◌∙◌, ap}
 use Rattle.std.specs.List.{position_or_len}
-use Rattle.std.proofs.lemmas.List.{length-map}
 use Rattle.hb_pool.specs.Slots.{is_page}
 use Rattle.hb_pool.proofs.Facts.Front.{stands_behind, stands_in_front, stands_nowhere, counted_as}
 use Rattle.hb_pool.proofs.order.Order.search.Goals as goal

@@ -1,7 +1,5 @@
-use Rattle.std.proofs.Common.{ℕ, ◌≡◌, ◌<◌, ◌++◌, ◌∷◌, [], List, ap, sym, ◌∙◌, arith}
+use Rattle.std.proofs.Common.{◌≡◌, ◌<◌, arith}
 use Rattle.std.specs.Vec.{vec_len}
-use Rattle.hb_pool.specs.Frames.{Frame, fresh}
-use Rattle.hb_pool.specs.Slots.{frames_in}
 use Rattle.hb_pool.proofs.Facts.Pooled.{kept_brought, room_there}
 use Rattle.hb_pool.proofs.Facts.Slotted.{no_entry}
 use Rattle.hb_pool.proofs.Facts.Lodged.{brought_more, brought_full}

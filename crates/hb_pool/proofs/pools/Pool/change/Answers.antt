@@ -1,7 +1,6 @@
 use Rattle.std.proofs.Common.{ℕ, not, cond, length, List, ap, ◌∙◌, arith}
 use Rattle.hb_pool.specs.Frames.{Frame, must_stay, filled}
-use Rattle.hb_pool.specs.Pools.{frame_of}
-use Rattle.hb_pool.specs.Slots.{framed, frames_in}
+use Rattle.hb_pool.specs.Slots.{framed}
 use Rattle.hb_pool.proofs.Facts.Pooled.{frame_pins}
 use Rattle.hb_pool.proofs.Facts.Slotted.{entry_there}
 use Rattle.hb_pool.proofs.Facts.Lodged.{number_within, lies_there, kept_touched, frames_last, is_put_last}

@@ -1,10 +1,9 @@
-use Rattle.std.proofs.Common.{ℕ, not, cond, length, List, refl, ap, subst, sym, ◌∙◌, arith}
+use Rattle.std.proofs.Common.{ℕ, not, cond, length, List, ap, ◌∙◌, arith}
 use Rattle.hb_lemmas.proofs.Options.{at_some_and, some_of_and}
 use Rattle.std.specs.Fn.{FnOnceTakesAtMut}
 use Rattle.hb_pool.specs.Frames.{Frame, must_stay, filled}
 use Rattle.hb_pool.specs.Pools.{frame_of}
 use Rattle.hb_pool.specs.Slots.{framed, frames_in}
-use Rattle.hb_pool.specs.Editing.{Edits}
 use Rattle.hb_pool.proofs.Facts.Pooled.{frame_pins}
 use Rattle.hb_pool.proofs.Facts.Slotted.{entry_there}
 use Rattle.hb_pool.proofs.Facts.Lodged.{number_within, lies_there, kept_touched, frames_last, is_put_last}

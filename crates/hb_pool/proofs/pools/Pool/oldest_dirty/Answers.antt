@@ -1,4 +1,4 @@
-use Rattle.std.proofs.Common.{ℕ, Some, get_or, sym, ◌∙◌}
+use Rattle.std.proofs.Common.{Some, get_or, sym, ◌∙◌}
 use Rattle.std.proofs.lemmas.Option.{slice_get-get_or, slice_get_past}
 use Rattle.hb_pool.specs.Slots.{frames_in}
 use Rattle.hb_pool.proofs.Facts.Leaving.{numbers_there, first_dirty_page, dirty_page_there}

@@ -1,8 +1,6 @@
-use Rattle.std.proofs.Common.{◌≡◌, ℕ, List, Option, Some, None, sym, ap, ◌∙◌, arith}
-use Rattle.std.specs.Option.{option_map}
+use Rattle.std.proofs.Common.{ℕ, List, sym, ap, ◌∙◌, arith}
 use Rattle.hb_pool.specs.Frames.{Frame}
 use Rattle.hb_pool.specs.Pools.{frame_of}
-use Rattle.hb_pool.specs.Slots.{framed, frames_in, frame_at}
 use Rattle.hb_pool.proofs.Facts.Slotted.{found_none}
 use Rattle.hb_pool.proofs.Facts.Lodged.{number_within, lies_there}
 use Rattle.hb_pool.proofs.pools.Pool.slot.Goals as goal

@@ -1,6 +1,6 @@
-use Rattle.std.proofs.Common.{ℕ, ◌<◌, IsTrue, not, cond, length, List, ap, ◌∙◌, arith}
+use Rattle.std.proofs.Common.{ℕ, ◌<◌, not, cond, length, List, ap, ◌∙◌, arith}
 use Rattle.hb_lemmas.proofs.Options.{at_some_and, some_of_and}
-use Rattle.hb_pool.specs.Frames.{Frame, must_stay, unpinned}
+use Rattle.hb_pool.specs.Frames.{Frame, unpinned}
 use Rattle.hb_pool.specs.Pools.{frame_of}
 use Rattle.hb_pool.specs.Slots.{framed, frames_in}
 use Rattle.hb_pool.proofs.Facts.Pooled.{frame_page, frame_pins, one_fits, pinned_stays}

@@ -1,5 +1,5 @@
-use Rattle.std.proofs.Common.{ℕ, List, refl, ap, subst, ◌∙◌}
-use Rattle.hb_pool.specs.Frames.{Frame, filled}
+use Rattle.std.proofs.Common.{refl, ap, subst, ◌∙◌}
+use Rattle.hb_pool.specs.Frames.{filled}
 use Rattle.hb_pool.specs.Editing.{AreWhole}
 use Rattle.hb_pool.specs.Slots.{Content, framed}
 use Rattle.hb_pool.proofs.slots.Slot.edit.Goals as goal
