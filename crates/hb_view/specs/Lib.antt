@@ -10,3 +10,4 @@ pub mod Naming
 pub mod Seen
 pub mod Splicing
 pub mod Spots
+pub mod WellMade

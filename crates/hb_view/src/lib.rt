@@ -45,6 +45,7 @@ mod threads;
 mod trees;
 mod views;
 mod walking;
+mod well_made;
 
 pub use leaves::LeafView;
 pub use splicing::splice;
