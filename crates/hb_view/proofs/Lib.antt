@@ -15,3 +15,4 @@ pub mod Led
 pub mod PlacedAmong
 pub mod Spotted
 pub mod Replaced
+pub mod PassedOver

@@ -14,6 +14,7 @@ use Rattle.hb_page_codec.specs.Reading.{number_at}
 use Rattle.hb_page_codec.specs.ReadingPages.{page_of_bytes}
 use Rattle.hb_view.specs.Views.{leaf_view}
 use Rattle.hb_view.specs.declared.leaves.LeafView.{LeafView}
+use Rattle.hb_view.specs.declared.leaves.LeafView.TheVariants as views
 use Rattle.hb_view.specs.declared.well_made.Passed.{Passed}
 
 -- a page in use keeps the rules that speak of it alone; of a free one they ask nothing
@@ -54,6 +55,17 @@ pub record IsTreeWellMade (level : ℕ) (area : Area) (tree : Tree) : Type 0 whe
 abbrev pub lone_leaf : Tree → Option LeafView
 lone_leaf (Tip leaf) = Some (leaf_view leaf)
 lone_leaf (Cut axis value left right) = None
+
+-- two sides that should be one leaf, told from the leaves that they are
+abbrev pub ShouldBeOne : Option LeafView → Option LeafView → Type 0
+ShouldBeOne (Some views.Records) (Some views.Records) = Unit {0}
+ShouldBeOne (Some (views.Child page)) (Some (views.Child other)) = page ≡ other
+ShouldBeOne _ _ = ⊥
+
+-- one sibling leaf and no more
+abbrev pub IsLoneSibling : Option LeafView → Type 0
+IsLoneSibling (Some (views.Sibling page)) = Unit {0}
+IsLoneSibling _ = ⊥
 
 -- What a walk went past: a tree that keeps the rules. It tells the bytes behind it, what it weighs, and the leaf that it is, where it
 -- has no cut.

@@ -5,16 +5,13 @@ ghost use Rattle.std.specs.declared.cmp.Ordering.TheVariants.{Less};
 ghost use Rattle.hb_space.specs.Boxes.{Area as Extent, Holds};
 ghost use Rattle.hb_space.specs.Points.{point_cmp};
 ghost use Rattle.hb_frag.specs.declared.leaves.Leaf.TheVariants.{Child, Sibling};
-ghost use Rattle.hb_frag.specs.Leaves.{weight_of};
-ghost use Rattle.hb_frag.specs.Rules.{AreAlike, IsSiblingTip};
-ghost use Rattle.hb_frag.specs.Trees.{Tree};
 ghost use Rattle.hb_layout.specs.declared.meta.Meta.{Meta};
 ghost use Rattle.hb_page_codec.specs.ReadingFields.{records_at};
 ghost use Rattle.hb_page_codec.specs.ReadingPages.{cut_at, records_tip_at, node_at, tree_at, live_at, fields_at};
 ghost use Rattle.hb_view.specs.Corners.{point_there};
 ghost use Rattle.hb_view.specs.Limits.{meta_with};
 ghost use Rattle.hb_view.specs.Walks.{ComesBehind, RiseFrom};
-ghost use Rattle.hb_view.specs.WellMade.{GoesPast, GoesPastTree, KeepsRules, SpellWellMade, free_at, lone_leaf, named_at};
+ghost use Rattle.hb_view.specs.WellMade.{GoesPast, GoesPastTree, IsLoneSibling, KeepsRules, ShouldBeOne, SpellWellMade, free_at, named_at};
 
 use crate::LeafView;
 use crate::bounds::Bounds;
@@ -160,7 +157,7 @@ fn past_sibling(level: u8, bytes: &[u8]) -> Option<Passed<'_>>
 
 /// Whether two sides should be one leaf, told from the leaf that each of them is.
 fn are_alike(left: Option<LeafView>, right: Option<LeafView>) -> bool
-    ensures { (l r : Tree) → left ≡ lone_leaf l → right ≡ lone_leaf r → IsTrue result ↔ AreAlike l r }
+    ensures { IsTrue result ↔ ShouldBeOne left right }
 {
     match (left, right) {
         (Some(LeafView::Records), Some(LeafView::Records)) => true,
@@ -235,7 +232,7 @@ fn past_tree<'a>(k: Attributes, level: u8, bounds: &mut Bounds, bytes: &'a [u8])
 
 /// Whether all of the tree is one sibling leaf, told from the leaf that it is.
 fn is_sibling(leaf: Option<LeafView>) -> bool
-    ensures { (t : Tree) → leaf ≡ lone_leaf t → IsTrue result ↔ IsSiblingTip t }
+    ensures { IsTrue result ↔ IsLoneSibling leaf }
 {
     match leaf {
         Some(LeafView::Sibling(_)) => true,

@@ -1,0 +1,398 @@
+-- What one walk over the bytes of a page goes past.
+use Rattle.std.proofs.Common.{◌≡◌, ◌↔◌, ℕ, suc, ◌+◌, ◌-◌, ◌*◌, ◌<◌, ◌≤◌, max, Bool, true, false, cond, eqb, List, [], ◌∷◌, length, All, Option, Some, None, IfSome, IsSomeAnd, IsTrue, refl, sym, ap, subst, ◌∙◌, arith}
+use Rattle.std.proofs.lemmas.Bool.{false≢true}
+use Rattle.std.proofs.lemmas.Option.{same_Some}
+use Rattle.std.specs.List.{list_all}
+use Rattle.hb_lemmas.specs.Options.{◌>>=◌}
+use Rattle.hb_lemmas.proofs.Lists.{All-one, All-parts}
+use Rattle.hb_lemmas.proofs.Numbers.{one_left}
+use Rattle.hb_lemmas.proofs.Options.{at_value, not_none, of_value, one_value, value_and}
+use Rattle.hb_space.specs.Boxes.{Area, Cuts, Holds, side_below, side_from}
+use Rattle.hb_space.specs.declared.form.TheConstants.{PAGE}
+use Rattle.hb_space.specs.declared.records.Record.{Record}
+use Rattle.hb_frag.specs.declared.leaves.Leaf.{Leaf}
+use Rattle.hb_frag.specs.declared.leaves.Leaf.TheVariants as leaves
+use Rattle.hb_frag.specs.declared.pages.LivePage.{LivePage}
+use Rattle.hb_frag.specs.declared.pages.Page.{Page}
+use Rattle.hb_frag.specs.declared.pages.Page.TheVariants.{Live, Free}
+use Rattle.hb_frag.specs.Trees.{Tree, Tip, Cut}
+use Rattle.hb_frag.specs.Leaves.{leaves as leaves_in, weight_of}
+use Rattle.hb_frag.specs.Rules.{AreAlike, BelongsAt, IsFilledRight, IsInOrder, IsSiblingTip, capacity_of}
+use Rattle.hb_frag.proofs.Facts.Parts.{weight_cut}
+use Rattle.hb_layout.specs.declared.meta.Meta.{Meta}
+use Rattle.hb_ops.specs.Sound.{FitsFile}
+use Rattle.hb_page_codec.specs.Reading.{number_at, many_at}
+use Rattle.hb_page_codec.specs.ReadingFields.{area_at, axis_at, count_at, record_at, records_at}
+use Rattle.hb_page_codec.specs.ReadingPages.{cut_at, records_tip_at, tree_at, head_at, live_at, fields_at, page_of_bytes}
+use Rattle.hb_view.specs.declared.leaves.LeafView.{LeafView}
+use Rattle.hb_view.specs.declared.leaves.LeafView.TheVariants as views
+use Rattle.hb_view.specs.declared.well_made.Passed.{Passed}
+use Rattle.hb_view.specs.Views.{leaf_view}
+use Rattle.hb_view.specs.Walks.{ComesBehind, RiseFrom}
+use Rattle.hb_view.specs.Behind.{name_behind}
+use Rattle.hb_view.specs.Limits.{meta_with}
+use Rattle.hb_view.specs.WellMade.{GoesPast, IsLoneSibling, IsTreeWellMade, KeepsRules, PassesOver, ShouldBeOne, SpellWellMade, free_at, lone_leaf, named_at}
+use Rattle.hb_view.proofs.Checked.{ending, whole}
+use Rattle.hb_view.proofs.Cornered.{has_corners, point_count}
+use Rattle.hb_view.proofs.Headed.{spelled_long}
+use Rattle.hb_view.proofs.Passing.{order_splits}
+use Rattle.hb_view.proofs.Risen.{rise_tells}
+use Rattle.hb_view.proofs.Walked.{many_counted}
+
+-- what holds of whatever a second step reads, wherever the first one reads something
+pub if_then : {A B : Type 0} (r : Option A) (f : A → Option B) (P : B → Type 0) → ((x : A) → r ≡ Some x → IfSome (f x) P) → IfSome (r >>= f) P
+if_then None f P h = tt
+if_then (Some x) f P h = h x refl
+
+-- ---- records
+
+abbrev Rising : Area → Option (List ℕ) → List Record × List ℕ → Type 0
+Rising area last x = ¬ (RiseFrom area last x.0)
+
+-- so many records are the first of them and the others
+first_of : (k n : ℕ) (bytes after : List ℕ) (r : Record) → record_at k bytes ≡ Some (r, after) → records_at k (suc n) bytes ≡ (records_at k n after >>= λ others. Some (r ∷ others.0, others.1))
+unfolding many_at
+first_of k n bytes after r e = rw e refl
+
+none_of : (k n : ℕ) (bytes : List ℕ) → record_at k bytes ≡ None → records_at k (suc n) bytes ≡ None
+unfolding many_at
+none_of k n bytes e = rw e refl
+
+goes_on : (k n : ℕ) (bytes after : List ℕ) (area : Area) (last : Option (List ℕ)) (r : Record) (result : Option (List ℕ)) → record_at k bytes ≡ Some (r, after) → Holds area r.key × ComesBehind last r.key
+    → GoesPast (RiseFrom area (Some r.key)) (records_at k n after) result → GoesPast (RiseFrom area last) (records_at k (suc n) bytes) result
+goes_on k n bytes after area last r (Some rest) e next past = (r ∷ past.0, first_of k n bytes after r e ∙ ap (λ (o : Option (List Record × List ℕ)). o >>= λ others. Some (r ∷ others.0, others.1)) past.1, (next.0, next.1, past.2))
+goes_on k n bytes after area last r None e next past =
+    subst (λ (o : Option (List Record × List ℕ)). IfSome o (Rising area last)) (sym (first_of k n bytes after r e))
+    (if_then (records_at k n after) (λ others. Some (r ∷ others.0, others.1)) (Rising area last) (λ x ex. λ rise. at_value (records_at k n after) (Rising area (Some r.key)) x ex past rise.2))
+
+-- one that doesn't come next
+stops_here : (k n : ℕ) (bytes after : List ℕ) (area : Area) (last : Option (List ℕ)) (r : Record) → record_at k bytes ≡ Some (r, after) → ¬ (Holds area r.key × ComesBehind last r.key) → IfSome (records_at k (suc n) bytes) (Rising area last)
+stops_here k n bytes after area last r e never =
+    subst (λ (o : Option (List Record × List ℕ)). IfSome o (Rising area last)) (sym (first_of k n bytes after r e))
+    (if_then (records_at k n after) (λ others. Some (r ∷ others.0, others.1)) (Rising area last) (λ x ex. λ rise. never (rise.0, rise.1)))
+
+-- what is left to go past, of so many records
+abbrev pub LeftOf : ℕ → Area → Option (List ℕ) → ℕ → List ℕ → ℕ → List ℕ → Type 0
+LeftOf k area last left rest count bytes = (result : Option (List ℕ)) → GoesPast (RiseFrom area last) (records_at k left rest) result → GoesPast (RiseFrom area None) (records_at k count bytes) result
+
+pub one_past : (k count i : ℕ) (bytes rest after : List ℕ) (area : Area) (last : Option (List ℕ)) (r : Record) → i < count → record_at k rest ≡ Some (r, after) → Holds area r.key × ComesBehind last r.key
+    → LeftOf k area last (count - i) rest count bytes → LeftOf k area (Some r.key) (count - (i + 1)) after count bytes
+one_past k count i bytes rest after area last r lt e next left result past =
+    left result (subst (λ n. GoesPast (RiseFrom area last) (records_at k n rest) result) (sym (one_left count i lt)) (goes_on k (count - (i + 1)) rest after area last r result e next past))
+
+pub none_read : (k count i : ℕ) (bytes rest : List ℕ) (area : Area) (last : Option (List ℕ)) → i < count → record_at k rest ≡ None → LeftOf k area last (count - i) rest count bytes → IfSome (records_at k count bytes) (Rising area None)
+none_read k count i bytes rest area last lt e left =
+    let none : records_at k (count - i) rest ≡ None = ap (λ n. records_at k n rest) (one_left count i lt) ∙ none_of k (count - (i + 1)) rest e in
+    left None (subst (λ (o : Option (List Record × List ℕ)). IfSome o (Rising area last)) (sym none) tt)
+
+pub one_stops : (k count i : ℕ) (bytes rest after : List ℕ) (area : Area) (last : Option (List ℕ)) (r : Record) → i < count → record_at k rest ≡ Some (r, after) → ¬ (Holds area r.key × ComesBehind last r.key)
+    → LeftOf k area last (count - i) rest count bytes → IfSome (records_at k count bytes) (Rising area None)
+one_stops k count i bytes rest after area last r lt e never left =
+    left None (subst (λ n. IfSome (records_at k n rest) (Rising area last)) (sym (one_left count i lt)) (stops_here k (count - (i + 1)) rest after area last r e never))
+
+pub all_past : (k count i : ℕ) (bytes rest : List ℕ) (area : Area) (last : Option (List ℕ)) → count ≤ i → LeftOf k area last (count - i) rest count bytes → GoesPast (RiseFrom area None) (records_at k count bytes) (Some rest)
+unfolding many_at
+all_past k count i bytes rest area last le left =
+    let e : count - i ≡ 0 = omega arith in
+    left (Some rest) (subst (λ n. GoesPast (RiseFrom area last) (records_at k n rest) (Some rest)) (sym e) ([], refl, tt))
+
+-- ---- a leaf of records
+
+list_well_made : (level : ℕ) (area : Area) (rs : List Record) → level ≡ 0 → RiseFrom area None rs → IsTreeWellMade level area (Tip (leaves.Records rs))
+list_well_made level area rs ground rise = record {
+  well_cut = tt;
+  kinds = (All-one (BelongsAt level) (leaves.Records rs)).1 ground;
+  in_order = (All-one IsInOrder (record { leaf = leaves.Records rs; area = area })).1 ((rise_tells area rs).0 rise);
+  normal = tt;
+}
+
+list_kind : (level : ℕ) (area : Area) (rs : List Record) → IsTreeWellMade level area (Tip (leaves.Records rs)) → level ≡ 0
+list_kind level area rs made = (All-one (BelongsAt level) (leaves.Records rs)).0 made.kinds
+
+list_rises : (level : ℕ) (area : Area) (rs : List Record) → IsTreeWellMade level area (Tip (leaves.Records rs)) → RiseFrom area None rs
+list_rises level area rs made = (rise_tells area rs).1 ((All-one IsInOrder (record { leaf = leaves.Records rs; area = area })).0 made.in_order)
+
+pub list_passed : (k level : ℕ) (area : Area) (bytes first : List ℕ) (count : ℕ) (passed : Passed) → level ≡ 0 → count_at k bytes ≡ Some (count, first) → GoesPast (RiseFrom area None) (records_at k count first) (Some passed.rest.now)
+    → passed.weight ≡ max 1 count → passed.leaf ≡ Some views.Records → PassesOver level area (records_tip_at k bytes) passed
+unfolding records_tip_at
+list_passed k level area bytes first count passed ground e past weight leaf = record {
+  tree = Tip (leaves.Records past.0);
+  there = rw (e, past.1) refl;
+  well_made = list_well_made level area past.0 ground past.2;
+  weight = let n = many_counted (record_at k) count first (past.0, passed.rest.now) past.1 in omega (arith, n, weight);
+  leaf = leaf;
+}
+
+-- it stops where no such leaf can be well made
+list_stops : (k level : ℕ) (area : Area) (bytes : List ℕ) → ((n : ℕ × List ℕ) → count_at k bytes ≡ Some n → level ≡ 0 → IfSome (records_at k n.0 n.1) (Rising area None)) → IfSome (records_tip_at k bytes) (λ x. ¬ (IsTreeWellMade level area x.0))
+unfolding records_tip_at
+list_stops k level area bytes never =
+    if_then (count_at k bytes) _ _ (λ n en. if_then (records_at k n.0 n.1) _ _ (λ x ex. λ made. at_value (records_at k n.0 n.1) (Rising area None) x ex (never n en (list_kind level area x.0 made)) (list_rises level area x.0 made)))
+
+pub list_too_high : (k level : ℕ) (area : Area) (bytes : List ℕ) → 0 < level → IfSome (records_tip_at k bytes) (λ x. ¬ (IsTreeWellMade level area x.0))
+list_too_high k level area bytes high = list_stops k level area bytes (λ n en ground. absurd (omega (arith, high, ground)))
+
+pub list_uncounted : (k level : ℕ) (area : Area) (bytes : List ℕ) → count_at k bytes ≡ None → IfSome (records_tip_at k bytes) (λ x. ¬ (IsTreeWellMade level area x.0))
+unfolding records_tip_at
+list_uncounted k level area bytes none = rw none tt
+
+pub list_falls : (k level : ℕ) (area : Area) (bytes first : List ℕ) (count : ℕ) → count_at k bytes ≡ Some (count, first) → IfSome (records_at k count first) (Rising area None) → IfSome (records_tip_at k bytes) (λ x. ¬ (IsTreeWellMade level area x.0))
+list_falls k level area bytes first count e falls =
+    list_stops k level area bytes (λ n en ground. subst (λ (m : ℕ × List ℕ). IfSome (records_at k m.0 m.1) (Rising area None)) (one_value (count_at k bytes) (count, first) n e en) falls)
+
+-- ---- a leaf that names a page
+
+named_well_made : (level : ℕ) (area : Area) (leaf : Leaf) → BelongsAt level leaf → IsInOrder (record { leaf = leaf; area = area }) → IsTreeWellMade level area (Tip leaf)
+named_well_made level area leaf kind order = record { well_cut = tt; kinds = (All-one (BelongsAt level) leaf).1 kind; in_order = (All-one IsInOrder (record { leaf = leaf; area = area })).1 order; normal = tt }
+
+named_passed : (leaf : ℕ → Leaf) (level page : ℕ) (area : Area) (bytes : List ℕ) (passed : Passed) → number_at 4 bytes ≡ Some (page, passed.rest.now) → IsTreeWellMade level area (Tip (leaf page)) → passed.weight ≡ weight_of (Tip (leaf page)) → passed.leaf ≡ Some (leaf_view (leaf page))
+    → PassesOver level area (named_at leaf bytes) passed
+named_passed leaf level page area bytes passed e made weight view = record {
+  tree = Tip (leaf page);
+  there = ap (λ (o : Option (ℕ × List ℕ)). o >>= λ n. Some (Tip (leaf n.0), n.1)) e;
+  well_made = made;
+  weight = weight;
+  leaf = view;
+}
+
+pub child_passed : (level page : ℕ) (area : Area) (bytes : List ℕ) (passed : Passed) → 0 < level → number_at 4 bytes ≡ Some (page, passed.rest.now) → passed.weight ≡ 1 → passed.leaf ≡ Some (views.Child page) → PassesOver level area (named_at leaves.Child bytes) passed
+child_passed level page area bytes passed high e weight leaf = named_passed leaves.Child level page area bytes passed e (named_well_made level area (leaves.Child page) high (record { inside = All-nil _; rising = λ i j d lt in_range. absurd (omega arith) })) weight leaf
+
+pub child_too_low : (level : ℕ) (area : Area) (bytes : List ℕ) → level ≡ 0 → IfSome (named_at leaves.Child bytes) (λ x. ¬ (IsTreeWellMade level area x.0))
+child_too_low level area bytes ground =
+    if_then (number_at 4 bytes) (λ n. Some (Tip (leaves.Child n.0), n.1)) _ (λ n en. λ made. let high : 0 < level = (All-one (BelongsAt level) (leaves.Child n.0)).0 made.kinds in absurd (omega (arith, high, ground)))
+
+pub sibling_passed : (level page : ℕ) (area : Area) (bytes : List ℕ) (passed : Passed) → number_at 4 bytes ≡ Some (page, passed.rest.now) → passed.weight ≡ 1 → passed.leaf ≡ Some (views.Sibling page) → PassesOver level area (named_at leaves.Sibling bytes) passed
+sibling_passed level page area bytes passed e weight leaf = named_passed leaves.Sibling level page area bytes passed e (named_well_made level area (leaves.Sibling page) tt (record { inside = All-nil _; rising = λ i j d lt in_range. absurd (omega arith) })) weight leaf
+
+pub unnamed : (leaf : ℕ → Leaf) (level : ℕ) (area : Area) (bytes : List ℕ) → number_at 4 bytes ≡ None → IfSome (named_at leaf bytes) (λ x. ¬ (IsTreeWellMade level area x.0))
+unnamed leaf level area bytes none = if_then (number_at 4 bytes) (λ n. Some (Tip (leaf n.0), n.1)) _ (λ n en. absurd (not_none (number_at 4 bytes) n en none))
+
+-- ---- a cut
+
+cut_well_made : (level axis value : ℕ) (area : Area) (l r : Tree) → Cuts area axis value → IsTreeWellMade level (side_below area axis value) l → IsTreeWellMade level (side_from area axis value) r → ¬ (AreAlike l r) → IsTreeWellMade level area (Cut axis value l r)
+cut_well_made level axis value area l r cuts below from other = record {
+  well_cut = (cuts, below.well_cut, from.well_cut);
+  kinds = (All-parts (BelongsAt level) (leaves_in l) (leaves_in r)).1 (below.kinds, from.kinds);
+  in_order = (order_splits area axis value l r).1 (below.in_order, from.in_order);
+  normal = (other, below.normal, from.normal);
+}
+
+below_well_made : (level axis value : ℕ) (area : Area) (l r : Tree) → IsTreeWellMade level area (Cut axis value l r) → IsTreeWellMade level (side_below area axis value) l
+below_well_made level axis value area l r made = record {
+  well_cut = made.well_cut.1;
+  kinds = ((All-parts (BelongsAt level) (leaves_in l) (leaves_in r)).0 made.kinds).0;
+  in_order = ((order_splits area axis value l r).0 made.in_order).0;
+  normal = made.normal.1;
+}
+
+from_well_made : (level axis value : ℕ) (area : Area) (l r : Tree) → IsTreeWellMade level area (Cut axis value l r) → IsTreeWellMade level (side_from area axis value) r
+from_well_made level axis value area l r made = record {
+  well_cut = made.well_cut.2;
+  kinds = ((All-parts (BelongsAt level) (leaves_in l) (leaves_in r)).0 made.kinds).1;
+  in_order = ((order_splits area axis value l r).0 made.in_order).1;
+  normal = made.normal.2;
+}
+
+-- a plane, and where the left side begins
+pub record PlaneAt (k : ℕ) (bytes : List ℕ) (axis value : ℕ) (left : List ℕ) : Type 0 where
+  pub behind : List ℕ
+  pub attribute : axis_at k bytes ≡ Some (axis, behind)
+  pub number : number_at 8 behind ≡ Some (value, left)
+
+cut_is : (k : ℕ) (bytes left : List ℕ) (axis value : ℕ) → PlaneAt k bytes axis value left → cut_at (tree_at k) k bytes ≡ (tree_at k left >>= λ l. tree_at k l.1 >>= λ r. Some (Cut axis value l.0 r.0, r.1))
+unfolding cut_at
+cut_is k bytes left axis value plane = rw (plane.attribute, plane.number) refl
+
+pub cut_passed : (k level axis value : ℕ) (area below above : Area) (bytes left : List ℕ) (first second passed : Passed) → PlaneAt k bytes axis value left → Cuts area axis value → below ≡ side_below area axis value → above ≡ side_from area axis value
+    → (p : PassesOver level below (tree_at k left) first) → (q : PassesOver level above (tree_at k first.rest.now) second) → ¬ (AreAlike p.tree q.tree)
+    → passed.rest.now ≡ second.rest.now → passed.weight ≡ first.weight + second.weight → passed.leaf ≡ None → PassesOver level area (cut_at (tree_at k) k bytes) passed
+cut_passed k level axis value area below above bytes left first second passed plane cuts eb ea p q other rest weight leaf = record {
+  tree = Cut axis value p.tree q.tree;
+  there = cut_is k bytes left axis value plane
+  ∙ ap (λ (o : Option (Tree × List ℕ)). o >>= λ l. tree_at k l.1 >>= λ r. Some (Cut axis value l.0 r.0, r.1)) p.there
+  ∙ ap (λ (o : Option (Tree × List ℕ)). o >>= λ r. Some (Cut axis value p.tree r.0, r.1)) q.there
+  ∙ ap (λ (b : List ℕ). Some (Cut axis value p.tree q.tree, b)) (sym rest);
+  well_made = cut_well_made level axis value area p.tree q.tree cuts (subst (λ (a : Area). IsTreeWellMade level a p.tree) eb p.well_made) (subst (λ (a : Area). IsTreeWellMade level a q.tree) ea q.well_made) other;
+  weight = omega (arith, weight, p.weight, q.weight, weight_cut axis value p.tree q.tree);
+  leaf = leaf;
+}
+
+-- it stops where no such cut can be well made
+cut_stops : (k level axis value : ℕ) (area : Area) (bytes left : List ℕ) → PlaneAt k bytes axis value left
+    → ((l r : Tree × List ℕ) → tree_at k left ≡ Some l → tree_at k l.1 ≡ Some r → ¬ (IsTreeWellMade level area (Cut axis value l.0 r.0))) → IfSome (cut_at (tree_at k) k bytes) (λ x. ¬ (IsTreeWellMade level area x.0))
+cut_stops k level axis value area bytes left plane never =
+    subst (λ (o : Option (Tree × List ℕ)). IfSome o (λ x. ¬ (IsTreeWellMade level area x.0))) (sym (cut_is k bytes left axis value plane))
+    (if_then (tree_at k left) (λ l. tree_at k l.1 >>= λ r. Some (Cut axis value l.0 r.0, r.1)) _ (λ l el. if_then (tree_at k l.1) (λ r. Some (Cut axis value l.0 r.0, r.1)) _ (λ r er. never l r el er)))
+
+pub cut_outside : (k level axis value : ℕ) (area : Area) (bytes left : List ℕ) → PlaneAt k bytes axis value left → ¬ (Cuts area axis value) → IfSome (cut_at (tree_at k) k bytes) (λ x. ¬ (IsTreeWellMade level area x.0))
+cut_outside k level axis value area bytes left plane never = cut_stops k level axis value area bytes left plane (λ l r el er. λ made. never made.well_cut.0)
+
+pub left_stops : (k level axis value : ℕ) (area below : Area) (bytes left : List ℕ) → PlaneAt k bytes axis value left → below ≡ side_below area axis value → IfSome (tree_at k left) (λ x. ¬ (IsTreeWellMade level below x.0)) → IfSome (cut_at (tree_at k) k bytes) (λ x. ¬ (IsTreeWellMade level area x.0))
+left_stops k level axis value area below bytes left plane eb stopped =
+    cut_stops k level axis value area bytes left plane (λ l r el er. λ made.
+    at_value (tree_at k left) (λ x. ¬ (IsTreeWellMade level below x.0)) l el stopped (subst (λ (a : Area). IsTreeWellMade level a l.0) (sym eb) (below_well_made level axis value area l.0 r.0 made)))
+
+-- the bytes behind the left side are one
+same_behind : (k : ℕ) (left right : List ℕ) (tree : Tree) (l : Tree × List ℕ) → tree_at k left ≡ Some (tree, right) → tree_at k left ≡ Some l → right ≡ l.1
+same_behind k left right tree l e el = ap (λ (x : Tree × List ℕ). x.1) (one_value (tree_at k left) (tree, right) l e el)
+
+pub right_stops : (k level axis value : ℕ) (area above : Area) (bytes left right : List ℕ) (tree : Tree) → PlaneAt k bytes axis value left → tree_at k left ≡ Some (tree, right) → above ≡ side_from area axis value
+    → IfSome (tree_at k right) (λ x. ¬ (IsTreeWellMade level above x.0)) → IfSome (cut_at (tree_at k) k bytes) (λ x. ¬ (IsTreeWellMade level area x.0))
+right_stops k level axis value area above bytes left right tree plane e ea stopped =
+    cut_stops k level axis value area bytes left plane (λ l r el er. λ made.
+    at_value (tree_at k right) (λ x. ¬ (IsTreeWellMade level above x.0)) r (ap (tree_at k) (same_behind k left right tree l e el) ∙ er) stopped
+    (subst (λ (a : Area). IsTreeWellMade level a r.0) (sym ea) (from_well_made level axis value area l.0 r.0 made)))
+
+pub alike_stops : (k level axis value : ℕ) (area below above : Area) (bytes left : List ℕ) (first second : Passed) → PlaneAt k bytes axis value left → (p : PassesOver level below (tree_at k left) first) → (q : PassesOver level above (tree_at k first.rest.now) second)
+    → AreAlike p.tree q.tree → IfSome (cut_at (tree_at k) k bytes) (λ x. ¬ (IsTreeWellMade level area x.0))
+alike_stops k level axis value area below above bytes left first second plane p q alike =
+    cut_stops k level axis value area bytes left plane (λ l r el er. λ made.
+    let same_left : p.tree ≡ l.0 = ap (λ (x : Tree × List ℕ). x.0) (one_value (tree_at k left) (p.tree, first.rest.now) l p.there el) in
+    let there : tree_at k first.rest.now ≡ Some r = ap (tree_at k) (same_behind k left first.rest.now p.tree l p.there el) ∙ er in
+    let same_right : q.tree ≡ r.0 = ap (λ (x : Tree × List ℕ). x.0) (one_value (tree_at k first.rest.now) (q.tree, second.rest.now) r q.there there) in
+    made.normal.0 (subst (λ (t : Tree). AreAlike l.0 t) same_right (subst (λ (t : Tree). AreAlike t q.tree) same_left alike)))
+
+-- ---- two sides by their leaves
+
+pub alike_tells : (l r : Tree) → ShouldBeOne (lone_leaf l) (lone_leaf r) ↔ AreAlike l r
+alike_tells (Cut axis value below from) r = (λ h. h, λ h. h)
+alike_tells (Tip (leaves.Sibling page)) r = (λ h. h, λ h. h)
+alike_tells (Tip (leaves.Records rs)) (Tip (leaves.Records others)) = (λ h. h, λ h. h)
+alike_tells (Tip (leaves.Records rs)) (Tip (leaves.Child page)) = (λ h. h, λ h. h)
+alike_tells (Tip (leaves.Records rs)) (Tip (leaves.Sibling page)) = (λ h. h, λ h. h)
+alike_tells (Tip (leaves.Records rs)) (Cut axis value below from) = (λ h. h, λ h. h)
+alike_tells (Tip (leaves.Child page)) (Tip (leaves.Records rs)) = (λ h. h, λ h. h)
+alike_tells (Tip (leaves.Child page)) (Tip (leaves.Child other)) = (λ h. h, λ h. h)
+alike_tells (Tip (leaves.Child page)) (Tip (leaves.Sibling other)) = (λ h. h, λ h. h)
+alike_tells (Tip (leaves.Child page)) (Cut axis value below from) = (λ h. h, λ h. h)
+
+-- by the leaves that two walks told
+pub alike_sides : (l r : Tree) (left right : Option LeafView) → left ≡ lone_leaf l → right ≡ lone_leaf r → ShouldBeOne left right ↔ AreAlike l r
+alike_sides l r left right el er =
+    subst (λ (o : Option LeafView). ShouldBeOne o right ↔ AreAlike l r) (sym el) (subst (λ (o : Option LeafView). ShouldBeOne (lone_leaf l) o ↔ AreAlike l r) (sym er) (alike_tells l r))
+
+sibling_tells : (t : Tree) → IsLoneSibling (lone_leaf t) ↔ IsSiblingTip t
+sibling_tells (Tip (leaves.Records rs)) = (λ h. h, λ h. h)
+sibling_tells (Tip (leaves.Child page)) = (λ h. h, λ h. h)
+sibling_tells (Tip (leaves.Sibling page)) = (λ h. h, λ h. h)
+sibling_tells (Cut axis value below from) = (λ h. h, λ h. h)
+
+pub sibling_root : (t : Tree) (leaf : Option LeafView) → leaf ≡ lone_leaf t → IsLoneSibling leaf ↔ IsSiblingTip t
+sibling_root t leaf e = subst (λ (o : Option LeafView). IsLoneSibling o ↔ IsSiblingTip t) (sym e) (sibling_tells t)
+
+-- ---- a page in use
+
+-- what a box that was read says of its attributes
+pub box_count : (k : ℕ) (bytes : List ℕ) (x : Area × List ℕ) → area_at k bytes ≡ Some x → length x.0.lo ≡ k
+box_count k bytes x e =
+    let has = has_corners k bytes x e in
+    let room : 8 * k ≤ length bytes = omega (arith, has.room) in
+    sym (ap (λ (a : Area). length a.lo) has.corners) ∙ point_count k bytes room
+
+-- a head, a box, and where the tree begins
+pub record HeadAt (bytes : List ℕ) (level k : ℕ) (area : Area) (tree : List ℕ) : Type 0 where
+  pub corners : List ℕ
+  pub head : head_at bytes ≡ Some (level, k, corners)
+  pub box : area_at k corners ≡ Some (area, tree)
+
+live_is : (bytes : List ℕ) (level k : ℕ) (area : Area) (tree : List ℕ) → HeadAt bytes level k area tree → live_at bytes ≡ (tree_at k tree >>= λ t. Some (Live (record { level = level; area = area; frag = t.0 }), t.1))
+unfolding live_at
+live_is bytes level k area tree at = rw (at.head, at.box) refl
+
+module _ (k height dcap icap : ℕ) where
+  abbrev Keeps : Page → Type 0
+  Keeps page = KeepsRules (meta_with k height dcap icap) page
+
+  pub live_passed : (bytes : List ℕ) (level n : ℕ) (area : Area) (tree : List ℕ) (passed : Passed) → HeadAt bytes level n area tree → level < height → n ≡ k → (p : PassesOver level area (tree_at n tree) passed)
+      → passed.weight ≤ capacity_of level dcap icap → ¬ (IsLoneSibling passed.leaf) → GoesPast Keeps (live_at bytes) (Some passed.rest.now)
+  live_passed bytes level n area tree passed at low same p light own = (
+    Live (record { level = level; area = area; frag = p.tree }),
+    live_is bytes level n area tree at ∙ ap (λ (o : Option (Tree × List ℕ)). o >>= λ t. Some (Live (record { level = level; area = area; frag = t.0 }), t.1)) p.there,
+    record {
+      fits = record { level = low; attributes = box_count n at.corners (area, tree) at.box ∙ same };
+      well_cut = p.well_made.well_cut;
+      filled = record { kinds = p.well_made.kinds; light = subst (λ (w : ℕ). w ≤ capacity_of level dcap icap) p.weight light; own = λ tip. own ((sibling_root p.tree passed.leaf p.leaf).1 tip) };
+      in_order = p.well_made.in_order;
+      normal = p.well_made.normal;
+    },
+  )
+
+  -- it stops where no such page can be well made
+  live_stops : (bytes : List ℕ) (level n : ℕ) (corners : List ℕ) → head_at bytes ≡ Some (level, n, corners)
+      → ((area : Area × List ℕ) (tree : Tree × List ℕ) → area_at n corners ≡ Some area → tree_at n area.1 ≡ Some tree → ¬ (Keeps (Live (record { level = level; area = area.0; frag = tree.0 })))) → IfSome (live_at bytes) (λ x. ¬ (Keeps x.0))
+  unfolding live_at
+  live_stops bytes level n corners eh never =
+      if_then (head_at bytes) _ _ (λ h hh. let same : (level, n, corners) ≡ h = one_value (head_at bytes) (level, n, corners) h eh hh in
+      subst (λ (y : ℕ × ℕ × List ℕ). IfSome (area_at y.1 y.2 >>= λ area. tree_at y.1 area.1 >>= λ tree. Some (Live (record { level = y.0; area = area.0; frag = tree.0 }), tree.1)) (λ x. ¬ (Keeps x.0))) same
+      (if_then (area_at n corners) _ _ (λ area ea. if_then (tree_at n area.1) _ _ (λ tree et. never area tree ea et))))
+
+  pub live_too_high : (bytes : List ℕ) (level n : ℕ) (corners : List ℕ) → head_at bytes ≡ Some (level, n, corners) → height ≤ level → IfSome (live_at bytes) (λ x. ¬ (Keeps x.0))
+  live_too_high bytes level n corners eh high = live_stops bytes level n corners eh (λ area tree ea et. λ keeps. absurd (omega (arith, high, keeps.fits.level)))
+
+  pub live_other_count : (bytes : List ℕ) (level n : ℕ) (corners : List ℕ) → head_at bytes ≡ Some (level, n, corners) → ¬ (n ≡ k) → IfSome (live_at bytes) (λ x. ¬ (Keeps x.0))
+  live_other_count bytes level n corners eh other = live_stops bytes level n corners eh (λ area tree ea et. λ keeps. other (sym (box_count n corners area ea) ∙ keeps.fits.attributes))
+
+  pub live_headless : (bytes : List ℕ) → head_at bytes ≡ None → IfSome (live_at bytes) (λ x. ¬ (Keeps x.0))
+  unfolding live_at
+  live_headless bytes none = rw none tt
+
+  pub live_boxless : (bytes : List ℕ) (level n : ℕ) (corners : List ℕ) → head_at bytes ≡ Some (level, n, corners) → area_at n corners ≡ None → IfSome (live_at bytes) (λ x. ¬ (Keeps x.0))
+  live_boxless bytes level n corners eh none = live_stops bytes level n corners eh (λ area tree ea et. absurd (not_none (area_at n corners) area ea none))
+
+  pub live_stopped : (bytes : List ℕ) (level n : ℕ) (area : Area) (tree : List ℕ) → HeadAt bytes level n area tree → IfSome (tree_at n tree) (λ x. ¬ (IsTreeWellMade level area x.0)) → IfSome (live_at bytes) (λ x. ¬ (Keeps x.0))
+  live_stopped bytes level n area tree at stopped =
+      subst (λ (o : Option (Page × List ℕ)). IfSome o (λ x. ¬ (Keeps x.0))) (sym (live_is bytes level n area tree at))
+      (if_then (tree_at n tree) (λ t. Some (Live (record { level = level; area = area; frag = t.0 }), t.1)) _ (λ t et. λ keeps.
+      at_value (tree_at n tree) (λ x. ¬ (IsTreeWellMade level area x.0)) t et stopped (record { well_cut = keeps.well_cut; kinds = keeps.filled.kinds; in_order = keeps.in_order; normal = keeps.normal })))
+
+  -- where the tree is well made and the root isn't
+  live_overfull : (bytes : List ℕ) (level n : ℕ) (area : Area) (tree : List ℕ) (passed : Passed) → HeadAt bytes level n area tree → (p : PassesOver level area (tree_at n tree) passed) → ¬ (IsFilledRight (record { level = level; area = area; frag = p.tree }) dcap icap)
+      → IfSome (live_at bytes) (λ x. ¬ (Keeps x.0))
+  live_overfull bytes level n area tree passed at p never =
+      of_value (live_at bytes) (λ x. ¬ (Keeps x.0)) (Live (record { level = level; area = area; frag = p.tree }), passed.rest.now)
+      (live_is bytes level n area tree at ∙ ap (λ (o : Option (Tree × List ℕ)). o >>= λ t. Some (Live (record { level = level; area = area; frag = t.0 }), t.1)) p.there) (λ keeps. never keeps.filled)
+
+  pub live_too_heavy : (bytes : List ℕ) (level n : ℕ) (area : Area) (tree : List ℕ) (passed : Passed) → HeadAt bytes level n area tree → PassesOver level area (tree_at n tree) passed → capacity_of level dcap icap < passed.weight → IfSome (live_at bytes) (λ x. ¬ (Keeps x.0))
+  live_too_heavy bytes level n area tree passed at p heavy = live_overfull bytes level n area tree passed at p (λ filled. absurd (omega (arith, heavy, p.weight, filled.light)))
+
+  pub live_lone_sibling : (bytes : List ℕ) (level n : ℕ) (area : Area) (tree : List ℕ) (passed : Passed) → HeadAt bytes level n area tree → PassesOver level area (tree_at n tree) passed → IsLoneSibling passed.leaf → IfSome (live_at bytes) (λ x. ¬ (Keeps x.0))
+  live_lone_sibling bytes level n area tree passed at p lone = live_overfull bytes level n area tree passed at p (λ filled. filled.own ((sibling_root p.tree passed.leaf p.leaf).0 lone))
+
+-- ---- a page
+
+pub free_passed : (meta : Meta) (bytes : List ℕ) (result : Option (List ℕ)) → name_behind bytes ≡ result → GoesPast (KeepsRules meta) (free_at bytes) result
+unfolding name_behind
+free_passed meta bytes result e = cases (number_at 4 bytes) result e
+  where
+    cases : (o : Option (ℕ × List ℕ)) (result : Option (List ℕ)) → (o >>= λ page. Some page.1) ≡ result → GoesPast (KeepsRules meta) (o >>= λ next. Some (Free next.0, next.1)) result
+    cases None None e = tt
+    cases None (Some rest) e = cc e
+    cases (Some n) None e = cc e
+    cases (Some n) (Some rest) e = (Free n.0, ap (λ (b : List ℕ). Some (Free n.0, b)) (same_Some n.1 rest e), tt)
+
+pub made_by_zeros : (meta : Meta) (bytes rest : List ℕ) (b : Bool) → length bytes ≡ PAGE → GoesPast (KeepsRules meta) (fields_at bytes) (Some rest) → b ≡ list_all (λ b. eqb b 0) rest → IsTrue b ↔ SpellWellMade meta bytes
+unfolding ending
+made_by_zeros meta bytes rest b long past test =
+    let read : page_of_bytes bytes ≡ cond b (Some past.0) None = whole bytes long ∙ ap ending past.1 ∙ ap (λ (t : Bool). cond t (Some past.0) None) (sym test) in
+    subst (λ (o : Option Page). IsTrue b ↔ IsSomeAnd o (KeepsRules meta)) (sym read) (tested b)
+  where
+    tested : (b : Bool) → IsTrue b ↔ IsSomeAnd (cond b (Some past.0) None) (KeepsRules meta)
+    tested true = (λ t. past.2, λ keeps. refl)
+    tested false = (λ t. absurd (false≢true t), λ never. absurd never)
+
+pub never_made : (meta : Meta) (bytes : List ℕ) → length bytes ≡ PAGE → GoesPast (KeepsRules meta) (fields_at bytes) None → IsTrue false ↔ SpellWellMade meta bytes
+unfolding ending
+never_made meta bytes long stopped =
+    (λ t. absurd (false≢true t), λ keeps. absurd (cases (fields_at bytes) stopped (subst (λ (o : Option Page). IsSomeAnd o (KeepsRules meta)) (whole bytes long) keeps)))
+  where
+    chosen : (page : Page) (b : Bool) → IsSomeAnd (cond b (Some page) None) (KeepsRules meta) → KeepsRules meta page
+    chosen page true keeps = keeps
+    chosen page false keeps = absurd keeps
+
+    cases : (o : Option (Page × List ℕ)) → IfSome o (λ x. ¬ (KeepsRules meta x.0)) → IsSomeAnd (ending o) (KeepsRules meta) → ⊥
+    cases None stopped keeps = keeps
+    cases (Some x) stopped keeps = stopped (chosen x.0 (list_all (λ b. eqb b 0) x.1) keeps)
+
+pub wrong_length : (meta : Meta) (bytes : List ℕ) → ¬ (length bytes ≡ PAGE) → IsTrue false ↔ SpellWellMade meta bytes
+wrong_length meta bytes other = (λ t. absurd (false≢true t), λ keeps. let w = value_and (page_of_bytes bytes) (KeepsRules meta) keeps in absurd (other (spelled_long bytes w.0 w.1)))
