@@ -25,7 +25,7 @@ fields_skipped (suc (suc zero) ∷ rest) = name_skipped _ rest
 fields_skipped (suc (suc (suc b)) ∷ rest) = refl
 
 -- what the fields and the zeros behind them make
-pub ending : Option (Page × List ℕ) → Option Page
+unfoldable pub ending : Option (Page × List ℕ) → Option Page
 ending o = o >>= λ x. cond (list_all (λ b. eqb b 0) x.1) (Some x.0) None
 
 pub whole : (bytes : List ℕ) → length bytes ≡ PAGE → page_of_bytes bytes ≡ ending (fields_at bytes)

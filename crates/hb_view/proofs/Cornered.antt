@@ -136,6 +136,12 @@ point_room k bytes x e = elim (cases_lt (length bytes) (8 * k)) [
   | inr le ↦ le
 ]
 
+pub point_shorter : (k : ℕ) (bytes : List ℕ) (x : List ℕ × List ℕ) → point_at k bytes ≡ Some x → length x.1 ≤ length bytes
+point_shorter k bytes x e =
+    let read = same_Some x (point_there k bytes, drop (8 * k) bytes) (sym e ∙ point_is k bytes (point_room k bytes x e)) in
+    let behind : length x.1 ≡ length (drop (8 * k) bytes) = ap (λ (y : List ℕ × List ℕ). length y.1) read in
+    omega (arith, behind, length-drop (8 * k) bytes)
+
 corners_of : (k : ℕ) (bytes : List ℕ) (x y : List ℕ × List ℕ) → point_at k bytes ≡ Some x → point_at k x.1 ≡ Some y → HasCorners k bytes (record { lo = x.0; hi = y.0 })
 corners_of k bytes x y ex ey =
     let room = point_room k bytes x ex in

@@ -16,3 +16,4 @@ pub mod PlacedAmong
 pub mod Spotted
 pub mod Replaced
 pub mod PassedOver
+pub mod Followed

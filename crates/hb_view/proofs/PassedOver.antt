@@ -1,14 +1,17 @@
 -- What one walk over the bytes of a page goes past.
-use Rattle.std.proofs.Common.{◌≡◌, ◌↔◌, ℕ, suc, ◌+◌, ◌-◌, ◌*◌, ◌<◌, ◌≤◌, max, Bool, true, false, cond, eqb, List, [], ◌∷◌, length, All, Option, Some, None, IfSome, IsSomeAnd, IsTrue, refl, sym, ap, subst, ◌∙◌, arith}
+use Rattle.std.proofs.Common.{◌≡◌, ◌↔◌, ℕ, suc, ◌+◌, ◌-◌, ◌*◌, ◌<◌, ◌≤◌, max, Bool, true, false, cond, eqb, ltb, List, [], ◌∷◌, length, take, drop, All, Option, Some, None, IfSome, IsSomeAnd, IsTrue, refl, sym, ap, subst, ◌∙◌, arith}
 use Rattle.std.proofs.lemmas.Bool.{false≢true}
+use Rattle.std.proofs.lemmas.List.{length-drop}
 use Rattle.std.proofs.lemmas.Option.{same_Some}
 use Rattle.std.specs.List.{list_all}
 use Rattle.hb_lemmas.specs.Options.{◌>>=◌}
 use Rattle.hb_lemmas.proofs.Lists.{All-one, All-parts}
+use Rattle.std.proofs.lemmas.List.Elements.{All-nil}
 use Rattle.hb_lemmas.proofs.Numbers.{one_left}
-use Rattle.hb_lemmas.proofs.Options.{at_value, not_none, of_value, one_value, value_and}
+use Rattle.hb_lemmas.proofs.Options.{at_value, bind_some, not_none, of_value, one_value, value_and}
+use Rattle.hb_lemmas.proofs.Booleans.{unless_some}
 use Rattle.hb_space.specs.Boxes.{Area, Cuts, Holds, side_below, side_from}
-use Rattle.hb_space.specs.declared.form.TheConstants.{PAGE}
+use Rattle.hb_space.specs.declared.form.TheConstants.{BMAX, PAGE}
 use Rattle.hb_space.specs.declared.records.Record.{Record}
 use Rattle.hb_frag.specs.declared.leaves.Leaf.{Leaf}
 use Rattle.hb_frag.specs.declared.leaves.Leaf.TheVariants as leaves
@@ -22,7 +25,7 @@ use Rattle.hb_frag.proofs.Facts.Parts.{weight_cut}
 use Rattle.hb_layout.specs.declared.meta.Meta.{Meta}
 use Rattle.hb_ops.specs.Sound.{FitsFile}
 use Rattle.hb_page_codec.specs.Reading.{number_at, many_at}
-use Rattle.hb_page_codec.specs.ReadingFields.{area_at, axis_at, count_at, record_at, records_at}
+use Rattle.hb_page_codec.specs.ReadingFields.{area_at, axis_at, body_at, count_at, point_at, record_at, records_at}
 use Rattle.hb_page_codec.specs.ReadingPages.{cut_at, records_tip_at, tree_at, head_at, live_at, fields_at, page_of_bytes}
 use Rattle.hb_view.specs.declared.leaves.LeafView.{LeafView}
 use Rattle.hb_view.specs.declared.leaves.LeafView.TheVariants as views
@@ -33,7 +36,7 @@ use Rattle.hb_view.specs.Behind.{name_behind}
 use Rattle.hb_view.specs.Limits.{meta_with}
 use Rattle.hb_view.specs.WellMade.{GoesPast, IsLoneSibling, IsTreeWellMade, KeepsRules, PassesOver, ShouldBeOne, SpellWellMade, free_at, lone_leaf, named_at}
 use Rattle.hb_view.proofs.Checked.{ending, whole}
-use Rattle.hb_view.proofs.Cornered.{has_corners, point_count}
+use Rattle.hb_view.proofs.Cornered.{has_corners, point_count, point_shorter}
 use Rattle.hb_view.proofs.Headed.{spelled_long}
 use Rattle.hb_view.proofs.Passing.{order_splits}
 use Rattle.hb_view.proofs.Risen.{rise_tells}
@@ -95,6 +98,25 @@ unfolding many_at
 all_past k count i bytes rest area last le left =
     let e : count - i ≡ 0 = omega arith in
     left (Some rest) (subst (λ n. GoesPast (RiseFrom area last) (records_at k n rest) (Some rest)) (sym e) ([], refl, tt))
+
+-- a record has a byte at least
+body_shorter : (bytes : List ℕ) (x : List ℕ × List ℕ) → body_at bytes ≡ Some x → 1 + length x.1 ≤ length bytes
+unfolding body_at
+body_shorter [] x e = absurd cc
+body_shorter (n ∷ rest) x e =
+    let g = unless_some (ltb BMAX n) (cond (ltb (length rest) n) None (Some (take n rest, drop n rest))) x e in
+    let h = unless_some (ltb (length rest) n) (Some (take n rest, drop n rest)) x g.1 in
+    let same : length (drop n rest) ≡ length x.1 = ap (λ (y : List ℕ × List ℕ). length y.1) (same_Some (take n rest, drop n rest) x h.1) in
+    omega (arith, length-drop n rest, same)
+
+pub record_shorter : (k : ℕ) (bytes after : List ℕ) (r : Record) → record_at k bytes ≡ Some (r, after) → 1 + length after ≤ length bytes
+unfolding record_at
+record_shorter k bytes after r e =
+    let p = bind_some (point_at k bytes) (λ key. body_at key.1 >>= λ body. Some (record { key = key.0; body = body.0 }, body.1)) (r, after) e in
+    let b = bind_some (body_at p.0.1) (λ body. Some (record { key = p.0.0; body = body.0 }, body.1)) (r, after) p.2 in
+    let made : Record × List ℕ = (record { key = p.0.0; body = b.0.0 }, b.0.1) in
+    let same : length b.0.1 ≡ length after = ap (λ (y : Record × List ℕ). length y.1) (same_Some made (r, after) b.2) in
+    omega (arith, point_shorter k bytes p.0 p.1, body_shorter p.0.1 b.0 b.1, same)
 
 -- ---- a leaf of records
 
@@ -323,8 +345,8 @@ module _ (k height dcap icap : ℕ) where
       → ((area : Area × List ℕ) (tree : Tree × List ℕ) → area_at n corners ≡ Some area → tree_at n area.1 ≡ Some tree → ¬ (Keeps (Live (record { level = level; area = area.0; frag = tree.0 })))) → IfSome (live_at bytes) (λ x. ¬ (Keeps x.0))
   unfolding live_at
   live_stops bytes level n corners eh never =
-      if_then (head_at bytes) _ _ (λ h hh. let same : (level, n, corners) ≡ h = one_value (head_at bytes) (level, n, corners) h eh hh in
-      subst (λ (y : ℕ × ℕ × List ℕ). IfSome (area_at y.1 y.2 >>= λ area. tree_at y.1 area.1 >>= λ tree. Some (Live (record { level = y.0; area = area.0; frag = tree.0 }), tree.1)) (λ x. ¬ (Keeps x.0))) same
+      if_then (head_at bytes) _ _ (λ h hh. let same : ◌≡◌ {A = ℕ × ℕ × List ℕ} (level, n, corners) h = one_value (head_at bytes) (level, n, corners) h eh hh in
+      subst (λ (y : ℕ × ℕ × List ℕ). IfSome {T = Page × List ℕ} (area_at y.1 y.2 >>= λ area. tree_at y.1 area.1 >>= λ tree. Some (Live (record { level = y.0; area = area.0; frag = tree.0 }), tree.1)) (λ x. ¬ (Keeps x.0))) same
       (if_then (area_at n corners) _ _ (λ area ea. if_then (tree_at n area.1) _ _ (λ tree et. never area tree ea et))))
 
   pub live_too_high : (bytes : List ℕ) (level n : ℕ) (corners : List ℕ) → head_at bytes ≡ Some (level, n, corners) → height ≤ level → IfSome (live_at bytes) (λ x. ¬ (Keeps x.0))

@@ -80,7 +80,7 @@ fn comes_next(k: Attributes, bounds: &Bounds, last: Option<&[u8]>, key: &[u8]) -
     requires room { 8 * k.number ≤ length key.now }
     requires last { IfSome last (λ b. 8 * k.number ≤ length b.now) }
     ensures { IsTrue result ↔ (Holds bounds.now (point_there k.number key.now) ×
-        ComesBehind (option_map (λ b. point_there k.number b.now) last) (point_there k.number key.now)) }
+        ComesBehind (option_map (λ b. point_there k.number b.now) last.entry) (point_there k.number key.now)) }
 {
     match last {
         Some(last) => follows_there(k, bounds, last, key),
