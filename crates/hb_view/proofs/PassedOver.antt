@@ -22,6 +22,7 @@ use Rattle.hb_frag.specs.Trees.{Tree, Tip, Cut}
 use Rattle.hb_frag.specs.Leaves.{leaves as leaves_in, weight_of}
 use Rattle.hb_frag.specs.Rules.{AreAlike, BelongsAt, IsFilledRight, IsInOrder, IsSiblingTip, capacity_of}
 use Rattle.hb_frag.proofs.Facts.Parts.{weight_cut}
+use Rattle.hb_frag.proofs.Facts.Sides.{same-side_from}
 use Rattle.hb_layout.specs.declared.meta.Meta.{Meta}
 use Rattle.hb_ops.specs.Sound.{FitsFile}
 use Rattle.hb_page_codec.specs.Reading.{number_at, many_at}
@@ -162,34 +163,6 @@ pub list_falls : (k level : ℕ) (area : Area) (bytes first : List ℕ) (count :
 list_falls k level area bytes first count e falls =
     list_stops k level area bytes (λ n en ground. subst (λ (m : ℕ × List ℕ). IfSome (records_at k m.0 m.1) (Rising area None)) (one_value (count_at k bytes) (count, first) n e en) falls)
 
--- ---- a leaf that names a page
-
-named_well_made : (level : ℕ) (area : Area) (leaf : Leaf) → BelongsAt level leaf → IsInOrder (record { leaf = leaf; area = area }) → IsTreeWellMade level area (Tip leaf)
-named_well_made level area leaf kind order = record { well_cut = tt; kinds = (All-one (BelongsAt level) leaf).1 kind; in_order = (All-one IsInOrder (record { leaf = leaf; area = area })).1 order; normal = tt }
-
-named_passed : (leaf : ℕ → Leaf) (level page : ℕ) (area : Area) (bytes : List ℕ) (passed : Passed) → number_at 4 bytes ≡ Some (page, passed.rest.now) → IsTreeWellMade level area (Tip (leaf page)) → passed.weight ≡ weight_of (Tip (leaf page)) → passed.leaf ≡ Some (leaf_view (leaf page))
-    → PassesOver level area (named_at leaf bytes) passed
-named_passed leaf level page area bytes passed e made weight view = record {
-  tree = Tip (leaf page);
-  there = ap (λ (o : Option (ℕ × List ℕ)). o >>= λ n. Some (Tip (leaf n.0), n.1)) e;
-  well_made = made;
-  weight = weight;
-  leaf = view;
-}
-
-pub child_passed : (level page : ℕ) (area : Area) (bytes : List ℕ) (passed : Passed) → 0 < level → number_at 4 bytes ≡ Some (page, passed.rest.now) → passed.weight ≡ 1 → passed.leaf ≡ Some (views.Child page) → PassesOver level area (named_at leaves.Child bytes) passed
-child_passed level page area bytes passed high e weight leaf = named_passed leaves.Child level page area bytes passed e (named_well_made level area (leaves.Child page) high (record { inside = All-nil _; rising = λ i j d lt in_range. absurd (omega arith) })) weight leaf
-
-pub child_too_low : (level : ℕ) (area : Area) (bytes : List ℕ) → level ≡ 0 → IfSome (named_at leaves.Child bytes) (λ x. ¬ (IsTreeWellMade level area x.0))
-child_too_low level area bytes ground =
-    if_then (number_at 4 bytes) (λ n. Some (Tip (leaves.Child n.0), n.1)) _ (λ n en. λ made. let high : 0 < level = (All-one (BelongsAt level) (leaves.Child n.0)).0 made.kinds in absurd (omega (arith, high, ground)))
-
-pub sibling_passed : (level page : ℕ) (area : Area) (bytes : List ℕ) (passed : Passed) → number_at 4 bytes ≡ Some (page, passed.rest.now) → passed.weight ≡ 1 → passed.leaf ≡ Some (views.Sibling page) → PassesOver level area (named_at leaves.Sibling bytes) passed
-sibling_passed level page area bytes passed e weight leaf = named_passed leaves.Sibling level page area bytes passed e (named_well_made level area (leaves.Sibling page) tt (record { inside = All-nil _; rising = λ i j d lt in_range. absurd (omega arith) })) weight leaf
-
-pub unnamed : (leaf : ℕ → Leaf) (level : ℕ) (area : Area) (bytes : List ℕ) → number_at 4 bytes ≡ None → IfSome (named_at leaf bytes) (λ x. ¬ (IsTreeWellMade level area x.0))
-unnamed leaf level area bytes none = if_then (number_at 4 bytes) (λ n. Some (Tip (leaf n.0), n.1)) _ (λ n en. absurd (not_none (number_at 4 bytes) n en none))
-
 -- ---- a cut
 
 cut_well_made : (level axis value : ℕ) (area : Area) (l r : Tree) → Cuts area axis value → IsTreeWellMade level (side_below area axis value) l → IsTreeWellMade level (side_from area axis value) r → ¬ (AreAlike l r) → IsTreeWellMade level area (Cut axis value l r)
@@ -239,6 +212,10 @@ cut_passed k level axis value area below above bytes left first second passed pl
   weight = omega (arith, weight, p.weight, q.weight, weight_cut axis value p.tree q.tree);
   leaf = leaf;
 }
+
+-- a side has as many attributes
+pub side_count : (area whole above : Area) (k axis value : ℕ) → whole ≡ area → above ≡ side_from whole axis value → length area.lo ≡ k → length above.lo ≡ k
+side_count area whole above k axis value ew ea same = ap (λ (a : Area). length a.lo) ea ∙ same-side_from whole axis value ∙ ap (λ (a : Area). length a.lo) ew ∙ same
 
 -- it stops where no such cut can be well made
 cut_stops : (k level axis value : ℕ) (area : Area) (bytes left : List ℕ) → PlaneAt k bytes axis value left
