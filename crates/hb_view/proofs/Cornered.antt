@@ -109,9 +109,12 @@ arent_in_order k i lo hi rl rh lt above =
 -- ---- boxes
 
 -- a box whose corners are read
-pub box_behind : (k : ℕ) (bytes lo hi middle rest : List ℕ) (b : Bool) → point_at k bytes ≡ Some (lo, middle) → point_at k middle ≡ Some (hi, rest) → b ≡ are_ordered lo hi → b ≡ true → behind (area_at k bytes) ≡ Some rest
+pub box_read : (k : ℕ) (bytes lo hi middle rest : List ℕ) (b : Bool) → point_at k bytes ≡ Some (lo, middle) → point_at k middle ≡ Some (hi, rest) → b ≡ are_ordered lo hi → b ≡ true → area_at k bytes ≡ Some (record { lo = lo; hi = hi }, rest)
 unfolding area_at
-box_behind k bytes lo hi middle rest b el eh test t = rw (el, eh, sym test ∙ t) refl
+box_read k bytes lo hi middle rest b el eh test t = rw (el, eh, sym test ∙ t) refl
+
+pub box_behind : (k : ℕ) (bytes lo hi middle rest : List ℕ) (b : Bool) → point_at k bytes ≡ Some (lo, middle) → point_at k middle ≡ Some (hi, rest) → b ≡ are_ordered lo hi → b ≡ true → behind (area_at k bytes) ≡ Some rest
+box_behind k bytes lo hi middle rest b el eh test t = ap (λ (o : Option (Area × List ℕ)). behind o) (box_read k bytes lo hi middle rest b el eh test t)
 
 pub box_disordered : (k : ℕ) (bytes lo hi middle rest : List ℕ) (b : Bool) → point_at k bytes ≡ Some (lo, middle) → point_at k middle ≡ Some (hi, rest) → b ≡ are_ordered lo hi → b ≡ false → behind (area_at k bytes) ≡ None
 unfolding area_at

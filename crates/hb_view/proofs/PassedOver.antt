@@ -1,5 +1,5 @@
 -- What one walk over the bytes of a page goes past.
-use Rattle.std.proofs.Common.{◌≡◌, ◌↔◌, ℕ, suc, ◌+◌, ◌-◌, ◌*◌, ◌<◌, ◌≤◌, max, Bool, true, false, cond, eqb, ltb, List, [], ◌∷◌, length, take, drop, All, Option, Some, None, IfSome, IsSomeAnd, IsTrue, refl, sym, ap, subst, ◌∙◌, arith}
+use Rattle.std.proofs.Common.{◌≡◌, ◌↔◌, ℕ, suc, ◌+◌, ◌-◌, ◌*◌, ◌<◌, ◌≤◌, max, Bool, true, false, cond, eqb, ltb, List, [], ◌∷◌, length, take, drop, All, Option, Some, None, option_map, IfSome, IsSomeAnd, IsTrue, refl, sym, ap, subst, ◌∙◌, arith}
 use Rattle.std.proofs.lemmas.Bool.{false≢true}
 use Rattle.std.proofs.lemmas.List.{length-drop}
 use Rattle.std.proofs.lemmas.Option.{same_Some}
@@ -25,7 +25,7 @@ use Rattle.hb_frag.proofs.Facts.Parts.{weight_cut}
 use Rattle.hb_frag.proofs.Facts.Sides.{same-side_from}
 use Rattle.hb_layout.specs.declared.meta.Meta.{Meta}
 use Rattle.hb_ops.specs.Sound.{FitsFile}
-use Rattle.hb_page_codec.specs.Reading.{number_at, many_at}
+use Rattle.hb_page_codec.specs.Reading.{ReadsAs, number_at, many_at}
 use Rattle.hb_page_codec.specs.ReadingFields.{area_at, axis_at, body_at, count_at, point_at, record_at, records_at}
 use Rattle.hb_page_codec.specs.ReadingPages.{cut_at, records_tip_at, tree_at, head_at, live_at, fields_at, page_of_bytes}
 use Rattle.hb_view.specs.declared.leaves.LeafView.{LeafView}
@@ -360,15 +360,16 @@ module _ (k height dcap icap : ℕ) where
 
 -- ---- a page
 
-pub free_passed : (meta : Meta) (bytes : List ℕ) (result : Option (List ℕ)) → name_behind bytes ≡ result → GoesPast (KeepsRules meta) (free_at bytes) result
+named_free : (meta : Meta) (o : Option (ℕ × List ℕ)) (result : Option (List ℕ)) → (o >>= λ page. Some page.1) ≡ result → GoesPast (KeepsRules meta) (o >>= λ next. Some (Free next.0, next.1)) result
+named_free meta None None e = tt
+named_free meta None (Some rest) e = cc e
+named_free meta (Some n) None e = cc e
+named_free meta (Some n) (Some rest) e = (Free n.0, ap (λ (b : List ℕ). Some (Free n.0, b)) (same_Some n.1 rest e), tt)
+
+pub free_passed : {X : Type 0} (view : X → List ℕ) (meta : Meta) (bytes : List ℕ) (result : Option X) → ReadsAs view result (name_behind bytes) → GoesPast (KeepsRules meta) (free_at bytes) (option_map view result)
 unfolding name_behind
-free_passed meta bytes result e = cases (number_at 4 bytes) result e
-  where
-    cases : (o : Option (ℕ × List ℕ)) (result : Option (List ℕ)) → (o >>= λ page. Some page.1) ≡ result → GoesPast (KeepsRules meta) (o >>= λ next. Some (Free next.0, next.1)) result
-    cases None None e = tt
-    cases None (Some rest) e = cc e
-    cases (Some n) None e = cc e
-    cases (Some n) (Some rest) e = (Free n.0, ap (λ (b : List ℕ). Some (Free n.0, b)) (same_Some n.1 rest e), tt)
+free_passed view meta bytes (Some x) e = named_free meta (number_at 4 bytes) (Some (view x)) e
+free_passed view meta bytes None e = named_free meta (number_at 4 bytes) None e
 
 pub made_by_zeros : (meta : Meta) (bytes rest : List ℕ) (b : Bool) → length bytes ≡ PAGE → GoesPast (KeepsRules meta) (fields_at bytes) (Some rest) → b ≡ list_all (λ b. eqb b 0) rest → IsTrue b ↔ SpellWellMade meta bytes
 unfolding ending

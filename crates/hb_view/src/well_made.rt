@@ -246,13 +246,19 @@ fn past_live(bytes: &[u8], limits: Limits) -> Option<&[u8]>
     ensures { GoesPast (KeepsRules (meta_with limits.k limits.height limits.dcap limits.icap)) (live_at bytes.now) (option_map (λ b. b.now) result) }
 {
     let (level, k, rest) = head_of(bytes)?;
-    if level >= limits.height || k.number != limits.k {
+    if level >= limits.height {
+        return None;
+    }
+    if k.number != limits.k {
         return None;
     }
     let (area, rest) = Bounds::read(k, rest)?;
     let mut bounds = area;
     let passed = past_tree(k, level, &mut bounds, rest)?;
-    if passed.weight > u32::from(capacity_of(level, limits.dcap, limits.icap)) || is_sibling(passed.leaf) {
+    if passed.weight > u32::from(capacity_of(level, limits.dcap, limits.icap)) {
+        return None;
+    }
+    if is_sibling(passed.leaf) {
         return None;
     }
     Some(passed.rest)
