@@ -1,6 +1,7 @@
 //! Whether bytes spell a page that keeps all rules that speak of it alone, told in one walk over them. Which rule is broken it
 //! doesn't tell.
-ghost use Rattle.std.specs.Prelude.{◌≡◌, ◌+◌, ◌*◌, ◌≤◌, ◌↔◌, length, IfSome, IsTrue, None, option_map};
+ghost use Rattle.std.specs.Prelude.{◌≡◌, ◌+◌, ◌*◌, ◌<◌, ◌≤◌, ◌↔◌, length, slice_index, IfSome, IsTrue, None, option_map};
+ghost use Rattle.std.specs.Ordering.{nat_cmp, ordering_then};
 ghost use Rattle.std.specs.declared.cmp.Ordering.TheVariants.{Less};
 ghost use Rattle.hb_space.specs.Boxes.{Area as Extent, Holds};
 ghost use Rattle.hb_space.specs.Points.{point_cmp};
@@ -11,15 +12,15 @@ ghost use Rattle.hb_page_codec.specs.ReadingPages.{cut_at, records_tip_at, node_
 ghost use Rattle.hb_view.specs.Corners.{point_there};
 ghost use Rattle.hb_view.specs.Limits.{meta_with};
 ghost use Rattle.hb_view.specs.Walks.{ComesBehind, RiseFrom};
-ghost use Rattle.hb_view.specs.WellMade.{GoesPast, GoesPastTree, IsLoneSibling, KeepsRules, ShouldBeOne, SpellWellMade, free_at, named_at};
+ghost use Rattle.hb_view.specs.WellMade.{GoesPast, GoesPastTree, KeepsRules, SpellWellMade, free_at, named_at};
 
-use crate::LeafView;
 use crate::bounds::Bounds;
-use crate::broken::Limits;
+use crate::broken::{Limits, is_sibling};
 use crate::corners::value_at;
 use crate::lists::parts_of;
-use crate::rules::cuts;
+use crate::rules::{are_alike, cuts};
 use crate::skipping::behind_name;
+use crate::trees::TreeView;
 use hb_frag::capacity_of;
 use hb_lemmas::is_zero;
 use hb_page_codec::{axis_of, count_of, head_of, u32_of, u64_of};
@@ -27,15 +28,17 @@ use hb_space::Attributes;
 use hb_space::form::PAGE;
 use std::cmp::Ordering;
 
-/// A tree that a walk went past.
-#[derive(Clone, Copy)]
-pub(crate) struct Passed<'a> {
-    /// The bytes behind it.
-    pub rest: &'a [u8],
-    /// What its leaves weigh together.
-    pub weight: u32,
-    /// The leaf that it is, where it has no cut.
-    pub leaf: Option<LeafView>,
+/// How two points compare, by the values in front of one of the second point, and by that value.
+fn compared_at(k: Attributes, order: Ordering, last: &[u8], axis: usize, value: u64) -> Ordering
+    requires room { 8 * k.number ≤ length last.now }
+    requires attribute { axis < k.number }
+    ensures { result ≡ ordering_then order (nat_cmp (slice_index (point_there k.number last.now) axis) value) }
+{
+    if order.is_eq() {
+        value_at(k, last, axis).cmp(&value)
+    } else {
+        order
+    }
 }
 
 /// Whether the box holds the point that stands there.
@@ -69,7 +72,7 @@ fn follows_there(k: Attributes, bounds: &Bounds, last: &[u8], key: &[u8]) -> boo
         if value < lo[axis] || hi[axis] < value {
             return false;
         }
-        order = order.then(value_at(k, last, axis).cmp(&value));
+        order = compared_at(k, order, last, axis, value);
     }
     order.is_lt()
 }
@@ -109,71 +112,54 @@ fn past_records<'a>(k: Attributes, bounds: &Bounds, count: u16, bytes: &'a [u8])
 
 /// Goes past a leaf of records, from behind its tag.
 #[tactic(auto, unfolding(hb_page_codec::specs::ReadingPages::records_tip_at))]
-fn past_list<'a>(k: Attributes, level: u8, bounds: &Bounds, bytes: &'a [u8]) -> Option<Passed<'a>>
+fn past_list<'a>(k: Attributes, level: u8, bounds: &Bounds, weight: &mut u32, bytes: &'a [u8]) -> Option<&'a [u8]>
     requires same { length bounds.now.lo ≡ k.number }
-    ensures passes { GoesPastTree level bounds.now (records_tip_at k.number bytes.now) result }
-    ensures light { IfSome result (λ p. p.weight + length p.rest.now ≤ 1 + length bytes.now) }
+    requires few { weight.old + length bytes.now < PAGE }
+    ensures passes { GoesPastTree level bounds.now weight.old weight.new (records_tip_at k.number bytes.now) (option_map (λ b. b.now) result) }
+    ensures light { IfSome result (λ rest. weight.new + length rest.now ≤ weight.old + 1 + length bytes.now) }
 {
     if level > 0 {
         return None;
     }
     let (count, first) = count_of(k, bytes)?;
     let rest = past_records(k, bounds, count, first)?;
-    Some(Passed {
-        rest,
-        weight: u32::from(count).max(1),
-        leaf: Some(LeafView::Records),
-    })
+    *weight += u32::from(count).max(1);
+    Some(rest)
 }
 
 /// Goes past a leaf that names a page one level down, from behind its tag.
-fn past_child(level: u8, bytes: &[u8]) -> Option<Passed<'_>>
-    ensures passes { (area : Extent) → GoesPastTree level area (named_at Child bytes.now) result }
-    ensures light { IfSome result (λ p. p.weight + length p.rest.now ≤ 1 + length bytes.now) }
+fn past_child<'a>(level: u8, weight: &mut u32, bytes: &'a [u8]) -> Option<&'a [u8]>
+    requires few { weight.old + length bytes.now < PAGE }
+    ensures passes { (area : Extent) → GoesPastTree level area weight.old weight.new (named_at Child bytes.now) (option_map (λ b. b.now) result) }
+    ensures light { IfSome result (λ rest. weight.new + length rest.now ≤ weight.old + 1 + length bytes.now) }
 {
     if level == 0 {
         return None;
     }
-    let (page, rest) = u32_of(bytes)?;
-    Some(Passed {
-        rest,
-        weight: 1,
-        leaf: Some(LeafView::Child(page)),
-    })
+    let (_page, rest) = u32_of(bytes)?;
+    *weight += 1;
+    Some(rest)
 }
 
 /// Goes past a leaf that names a page of the same level, from behind its tag.
-fn past_sibling(level: u8, bytes: &[u8]) -> Option<Passed<'_>>
-    ensures passes { (area : Extent) → GoesPastTree level area (named_at Sibling bytes.now) result }
-    ensures light { IfSome result (λ p. p.weight + length p.rest.now ≤ 1 + length bytes.now) }
+fn past_sibling<'a>(level: u8, weight: &mut u32, bytes: &'a [u8]) -> Option<&'a [u8]>
+    requires few { weight.old + length bytes.now < PAGE }
+    ensures passes { (area : Extent) → GoesPastTree level area weight.old weight.new (named_at Sibling bytes.now) (option_map (λ b. b.now) result) }
+    ensures light { IfSome result (λ rest. weight.new + length rest.now ≤ weight.old + 1 + length bytes.now) }
 {
-    let (page, rest) = u32_of(bytes)?;
-    Some(Passed {
-        rest,
-        weight: 1,
-        leaf: Some(LeafView::Sibling(page)),
-    })
-}
-
-/// Whether two sides should be one leaf, told from the leaf that each of them is.
-fn are_alike(left: Option<LeafView>, right: Option<LeafView>) -> bool
-    ensures { IsTrue result ↔ ShouldBeOne left right }
-{
-    match (left, right) {
-        (Some(LeafView::Records), Some(LeafView::Records)) => true,
-        (Some(LeafView::Child(page)), Some(LeafView::Child(other))) => page == other,
-        _ => false,
-    }
+    let (_page, rest) = u32_of(bytes)?;
+    *weight += 1;
+    Some(rest)
 }
 
 /// Goes past a cut, from behind its tag. The box stays as it is.
 #[cycle(trees)]
 #[tactic(auto, unfolding(hb_page_codec::specs::ReadingPages::cut_at))]
-fn past_cut<'a>(k: Attributes, level: u8, bounds: &mut Bounds, bytes: &'a [u8]) -> Option<Passed<'a>>
+fn past_cut<'a>(k: Attributes, level: u8, bounds: &mut Bounds, weight: &mut u32, bytes: &'a [u8]) -> Option<&'a [u8]>
     requires same { length bounds.old.lo ≡ k.number }
-    requires short { length bytes.now ≤ PAGE }
-    ensures passes { GoesPastTree level bounds.old (cut_at (tree_at k.number) k.number bytes.now) result }
-    ensures light { IfSome result (λ p. p.weight + length p.rest.now ≤ length bytes.now) }
+    requires few { weight.old + length bytes.now ≤ PAGE }
+    ensures passes { GoesPastTree level bounds.old weight.old weight.new (cut_at (tree_at k.number) k.number bytes.now) (option_map (λ b. b.now) result) }
+    ensures light { IfSome result (λ rest. weight.new + length rest.now ≤ weight.old + length bytes.now) }
     ensures back { bounds.new ≡ bounds.old }
 {
     let (axis, rest) = axis_of(k, bytes)?;
@@ -182,62 +168,50 @@ fn past_cut<'a>(k: Attributes, level: u8, bounds: &mut Bounds, bytes: &'a [u8]) 
         return None;
     }
     let greatest = bounds.take_below(axis, value);
-    let below = past_tree(k, level, bounds, left);
+    let below = past_tree(k, level, bounds, weight, left);
     bounds.put_hi(axis, greatest);
-    let below = below?;
+    let right = below?;
     let least = bounds.take_from(axis, value);
-    let from = past_tree(k, level, bounds, below.rest);
+    let from = past_tree(k, level, bounds, weight, right);
     bounds.put_lo(axis, least);
-    let from = from?;
-    if are_alike(below.leaf, from.leaf) {
+    let behind = from?;
+    let left = TreeView { k, bytes: left };
+    let right = TreeView { k, bytes: right };
+    if are_alike(&left, &right) {
         return None;
     }
-    Some(Passed {
-        rest: from.rest,
-        weight: below.weight + from.weight,
-        leaf: None,
-    })
+    Some(behind)
 }
 
 /// Goes past a tree by its root. The box stays as it is.
 #[cycle(trees)]
 #[tactic(auto, unfolding(hb_page_codec::specs::ReadingPages::node_at))]
-fn past_root<'a>(k: Attributes, level: u8, bounds: &mut Bounds, bytes: &'a [u8]) -> Option<Passed<'a>>
+fn past_root<'a>(k: Attributes, level: u8, bounds: &mut Bounds, weight: &mut u32, bytes: &'a [u8]) -> Option<&'a [u8]>
     requires same { length bounds.old.lo ≡ k.number }
-    requires short { length bytes.now ≤ PAGE }
-    ensures passes { GoesPastTree level bounds.old (node_at (tree_at k.number) k.number bytes.now) result }
-    ensures light { IfSome result (λ p. p.weight + length p.rest.now ≤ length bytes.now) }
+    requires few { weight.old + length bytes.now ≤ PAGE }
+    ensures passes { GoesPastTree level bounds.old weight.old weight.new (node_at (tree_at k.number) k.number bytes.now) (option_map (λ b. b.now) result) }
+    ensures light { IfSome result (λ rest. weight.new + length rest.now ≤ weight.old + length bytes.now) }
     ensures back { bounds.new ≡ bounds.old }
 {
     match bytes {
-        [0, rest @ ..] => past_cut(k, level, bounds, rest),
-        [1, rest @ ..] => past_list(k, level, bounds, rest),
-        [2, rest @ ..] => past_child(level, rest),
-        [3, rest @ ..] => past_sibling(level, rest),
+        [0, rest @ ..] => past_cut(k, level, bounds, weight, rest),
+        [1, rest @ ..] => past_list(k, level, bounds, weight, rest),
+        [2, rest @ ..] => past_child(level, weight, rest),
+        [3, rest @ ..] => past_sibling(level, weight, rest),
         _ => None,
     }
 }
 
-/// Goes past a tree of this level with this box that keeps the rules. The box stays as it is.
+/// Goes past a tree of this level with this box that keeps the rules, and adds what it weighs. The box stays as it is.
 #[cycle(trees)]
-fn past_tree<'a>(k: Attributes, level: u8, bounds: &mut Bounds, bytes: &'a [u8]) -> Option<Passed<'a>>
+fn past_tree<'a>(k: Attributes, level: u8, bounds: &mut Bounds, weight: &mut u32, bytes: &'a [u8]) -> Option<&'a [u8]>
     requires same { length bounds.old.lo ≡ k.number }
-    requires short { length bytes.now ≤ PAGE }
-    ensures passes { GoesPastTree level bounds.old (tree_at k.number bytes.now) result }
-    ensures light { IfSome result (λ p. p.weight + length p.rest.now ≤ length bytes.now) }
+    requires few { weight.old + length bytes.now ≤ PAGE }
+    ensures passes { GoesPastTree level bounds.old weight.old weight.new (tree_at k.number bytes.now) (option_map (λ b. b.now) result) }
+    ensures light { IfSome result (λ rest. weight.new + length rest.now ≤ weight.old + length bytes.now) }
     ensures back { bounds.new ≡ bounds.old }
 {
-    past_root(k, level, bounds, bytes)
-}
-
-/// Whether all of the tree is one sibling leaf, told from the leaf that it is.
-fn is_sibling(leaf: Option<LeafView>) -> bool
-    ensures { IsTrue result ↔ IsLoneSibling leaf }
-{
-    match leaf {
-        Some(LeafView::Sibling(_)) => true,
-        _ => false,
-    }
+    past_root(k, level, bounds, weight, bytes)
 }
 
 /// Goes past a page in use that keeps the rules, from behind its tag.
@@ -252,16 +226,18 @@ fn past_live(bytes: &[u8], limits: Limits) -> Option<&[u8]>
     if k.number != limits.k {
         return None;
     }
-    let (area, rest) = Bounds::read(k, rest)?;
+    let (area, tree) = Bounds::read(k, rest)?;
     let mut bounds = area;
-    let passed = past_tree(k, level, &mut bounds, rest)?;
-    if passed.weight > u32::from(capacity_of(level, limits.dcap, limits.icap)) {
+    let mut weight = 0;
+    let behind = past_tree(k, level, &mut bounds, &mut weight, tree)?;
+    if weight > u32::from(capacity_of(level, limits.dcap, limits.icap)) {
         return None;
     }
-    if is_sibling(passed.leaf) {
+    let tree = TreeView { k, bytes: tree };
+    if is_sibling(&tree) {
         return None;
     }
-    Some(passed.rest)
+    Some(behind)
 }
 
 /// Goes past a free page, from behind its tag.

@@ -1,4 +1,4 @@
-use Rattle.std.proofs.Common.{◌≡◌, ℕ, List, length, ap, sym, refl, ◌∙◌, arith}
+use Rattle.std.proofs.Common.{◌≡◌, ℕ, List, length, get_or, ap, sym, refl, ◌∙◌, arith}
 use Rattle.std.specs.Ordering.{nat_cmp, is_lt}
 use Rattle.std.specs.declared.cmp.Ordering.{Ordering}
 use Rattle.hb_view.specs.Corners.{point_there}
@@ -14,12 +14,9 @@ loop-axis-preserved c =
     let same : length c.corners.result.0.now ≡ k = ap (λ (l : List ℕ). length l) c.corners.ensures.lo ∙ c.requires.same in
     record {
       between = one_between c.corners.result.0.now c.corners.result.1.now (point_there k key) c.loop-axis.axis c.value_at-value.result c.loop-axis.invariant.between c.value_at-value.ensures c.if-value-lo.false c.if-hi-axis.false;
-      so_far = one_compared (point_there k last) (point_there k key) c.loop-axis.axis c.loop-axis.order c.cmp.result c.then-order.result (omega (arith, c.loop-axis-test.true, same, point_count k last c.requires.last)) (omega (arith, c.loop-axis-test.true, same, point_count k key c.requires.room))
-      c.loop-axis.invariant.so_far (c.cmp.ensures ∙ both_same c.value_at.ensures c.value_at-value.ensures) c.then-order.ensures;
+      so_far = one_compared (point_there k last) (point_there k key) c.loop-axis.axis c.loop-axis.order _ c.compared_at-order.result (omega (arith, c.loop-axis-test.true, same, point_count k last c.requires.last)) (omega (arith, c.loop-axis-test.true, same, point_count k key c.requires.room))
+      c.loop-axis.invariant.so_far (ap (λ (n : ℕ). nat_cmp (get_or (point_there k last) c.loop-axis.axis 0) n) c.value_at-value.ensures) c.compared_at-order.ensures;
     }
-  where
-    both_same : {a b x y : ℕ} → a ≡ x → b ≡ y → nat_cmp a b ≡ nat_cmp x y
-    both_same {b = b} {x = x} e f = ap (λ (n : ℕ). nat_cmp n b) e ∙ ap (nat_cmp x) f
 
 pub returns : goal.returns
 returns c =

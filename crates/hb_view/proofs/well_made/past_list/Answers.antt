@@ -10,7 +10,7 @@ returns-in_err-rest-clause-passes c =
 
 pub returns-clause-passes : goal.returns-clause-passes
 returns-clause-passes c =
-    list_passed c.args.k.number c.args.level c.args.bounds.now c.args.bytes.now c.in_ok-count.first.now c.in_ok-count.count _ (omega (arith, c.if-level-gt0.false)) c.in_ok-count.ensures c.in_ok-rest.ensures.passes (omega (arith, c.max.ensures, c.from.ensures)) refl
+    list_passed c.args.k.number c.args.level c.args.bounds.now c.args.weight.now _ c.args.bytes.now c.in_ok-count.first.now c.in_ok-rest.rest.now c.in_ok-count.count (omega (arith, c.if-level-gt0.false)) c.in_ok-count.ensures c.in_ok-rest.ensures.passes (omega (arith, c.max.ensures, c.from.ensures))
 
 pub returns-clause-light : goal.returns-clause-light
 returns-clause-light c =
