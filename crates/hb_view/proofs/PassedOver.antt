@@ -1,5 +1,5 @@
 -- What one walk over the bytes of a page goes past.
-use Rattle.std.proofs.Common.{◌≡◌, ◌↔◌, ℕ, suc, ◌+◌, ◌-◌, ◌*◌, ◌<◌, ◌≤◌, max, Bool, true, false, cond, eqb, ltb, List, [], ◌∷◌, length, take, drop, All, Option, Some, None, option_map, IfSome, IsSomeAnd, IsTrue, refl, sym, ap, subst, ◌∙◌, arith}
+use Rattle.std.proofs.Common.{◌≡◌, ◌↔◌, ℕ, suc, ◌+◌, ◌-◌, ◌*◌, ◌<◌, ◌≤◌, max, Bool, true, false, not, cond, eqb, ltb, List, [], ◌∷◌, length, take, drop, All, Option, Some, None, option_map, IfSome, IsSomeAnd, IsTrue, refl, sym, ap, subst, ◌∙◌, arith}
 use Rattle.std.proofs.lemmas.Bool.{false≢true}
 use Rattle.std.proofs.lemmas.List.{length-drop}
 use Rattle.std.proofs.lemmas.Option.{same_Some}
@@ -28,11 +28,13 @@ use Rattle.hb_ops.specs.Sound.{FitsFile}
 use Rattle.hb_page_codec.specs.Reading.{ReadsAs, number_at, many_at}
 use Rattle.hb_page_codec.specs.ReadingFields.{area_at, axis_at, body_at, count_at, point_at, record_at, records_at}
 use Rattle.hb_page_codec.specs.ReadingPages.{cut_at, records_tip_at, tree_at, head_at, live_at, fields_at, page_of_bytes}
+use Rattle.hb_view.specs.declared.leaves.LeafView.{LeafView}
+use Rattle.hb_view.specs.declared.leaves.LeafView.TheVariants as views
+use Rattle.hb_view.specs.declared.well_made.Passed.{Passed}
 use Rattle.hb_view.specs.Walks.{ComesBehind, RiseFrom}
 use Rattle.hb_view.specs.Behind.{name_behind}
 use Rattle.hb_view.specs.Limits.{meta_with}
-use Rattle.hb_view.specs.WellMade.{GoesPast, IsTreeWellMade, KeepsRules, PassesOver, SpellWellMade, free_at}
-use Rattle.hb_view.specs.Roots.{tree_or, tree_there}
+use Rattle.hb_view.specs.WellMade.{GoesPast, GoesPastTree, IsLoneSibling, IsTreeWellMade, KeepsRules, PassesOver, ShouldBeOne, SpellWellMade, free_at, lone_leaf}
 use Rattle.hb_view.proofs.Checked.{ending, whole}
 use Rattle.hb_view.proofs.Cornered.{has_corners, point_count, point_shorter}
 use Rattle.hb_view.proofs.Headed.{spelled_long}
@@ -44,6 +46,13 @@ use Rattle.hb_view.proofs.Walked.{many_counted}
 pub if_then : {A B : Type 0} (r : Option A) (f : A → Option B) (P : B → Type 0) → ((x : A) → r ≡ Some x → IfSome (f x) P) → IfSome (r >>= f) P
 if_then None f P h = tt
 if_then (Some x) f P h = h x refl
+
+-- what a walk says that went past a tree, and one that stopped
+pub went_past : (level : ℕ) (area : Area) (before : ℕ) (read : Option (Tree × List ℕ)) (passed : Passed) (b : Bool) → GoesPastTree level area before read passed b → b ≡ true → PassesOver level area before read passed
+went_past level area before read passed b h e = subst (λ (t : Bool). GoesPastTree level area before read passed t) e h
+
+pub has_stopped : (level : ℕ) (area : Area) (before : ℕ) (read : Option (Tree × List ℕ)) (passed : Passed) (b : Bool) → GoesPastTree level area before read passed b → b ≡ false → IfSome read (λ x. ¬ (IsTreeWellMade level area x.0))
+has_stopped level area before read passed b h e = subst (λ (t : Bool). GoesPastTree level area before read passed t) e h
 
 -- ---- records
 
@@ -132,14 +141,15 @@ list_kind level area rs made = (All-one (BelongsAt level) (leaves.Records rs)).0
 list_rises : (level : ℕ) (area : Area) (rs : List Record) → IsTreeWellMade level area (Tip (leaves.Records rs)) → RiseFrom area None rs
 list_rises level area rs made = (rise_tells area rs).1 ((All-one IsInOrder (record { leaf = leaves.Records rs; area = area })).0 made.in_order)
 
-pub list_passed : (k level : ℕ) (area : Area) (before after : ℕ) (bytes first rest : List ℕ) (count : ℕ) → level ≡ 0 → count_at k bytes ≡ Some (count, first) → GoesPast (RiseFrom area None) (records_at k count first) (Some rest)
-    → after ≡ before + max 1 count → PassesOver level area before after (records_tip_at k bytes) rest
+pub list_passed : (k level : ℕ) (area : Area) (before : ℕ) (bytes first : List ℕ) (count : ℕ) (passed : Passed) → level ≡ 0 → count_at k bytes ≡ Some (count, first) → GoesPast (RiseFrom area None) (records_at k count first) (Some passed.rest.now)
+    → passed.weight ≡ before + max 1 count → passed.leaf ≡ Some views.Records → PassesOver level area before (records_tip_at k bytes) passed
 unfolding records_tip_at
-list_passed k level area before after bytes first rest count ground e past weight = record {
+list_passed k level area before bytes first count passed ground e past weight leaf = record {
   tree = Tip (leaves.Records past.0);
   there = rw (e, past.1) refl;
   well_made = list_well_made level area past.0 ground past.2;
-  weight = let n = many_counted (record_at k) count first (past.0, rest) past.1 in omega (arith, n, weight);
+  weight = let n = many_counted (record_at k) count first (past.0, passed.rest.now) past.1 in omega (arith, n, weight);
+  leaf = leaf;
 }
 
 -- it stops where no such leaf can be well made
@@ -158,6 +168,34 @@ list_uncounted k level area bytes none = rw none tt
 pub list_falls : (k level : ℕ) (area : Area) (bytes first : List ℕ) (count : ℕ) → count_at k bytes ≡ Some (count, first) → IfSome (records_at k count first) (Rising area None) → IfSome (records_tip_at k bytes) (λ x. ¬ (IsTreeWellMade level area x.0))
 list_falls k level area bytes first count e falls =
     list_stops k level area bytes (λ n en ground. subst (λ (m : ℕ × List ℕ). IfSome (records_at k m.0 m.1) (Rising area None)) (one_value (count_at k bytes) (count, first) n e en) falls)
+
+-- ---- two sides by their leaves
+
+pub alike_tells : (l r : Tree) → ShouldBeOne (lone_leaf l) (lone_leaf r) ↔ AreAlike l r
+alike_tells (Cut axis value below from) r = (λ h. h, λ h. h)
+alike_tells (Tip (leaves.Sibling page)) r = (λ h. h, λ h. h)
+alike_tells (Tip (leaves.Records rs)) (Tip (leaves.Records others)) = (λ h. h, λ h. h)
+alike_tells (Tip (leaves.Records rs)) (Tip (leaves.Child page)) = (λ h. h, λ h. h)
+alike_tells (Tip (leaves.Records rs)) (Tip (leaves.Sibling page)) = (λ h. h, λ h. h)
+alike_tells (Tip (leaves.Records rs)) (Cut axis value below from) = (λ h. h, λ h. h)
+alike_tells (Tip (leaves.Child page)) (Tip (leaves.Records rs)) = (λ h. h, λ h. h)
+alike_tells (Tip (leaves.Child page)) (Tip (leaves.Child other)) = (λ h. h, λ h. h)
+alike_tells (Tip (leaves.Child page)) (Tip (leaves.Sibling other)) = (λ h. h, λ h. h)
+alike_tells (Tip (leaves.Child page)) (Cut axis value below from) = (λ h. h, λ h. h)
+
+-- by the leaves that two walks told
+pub alike_sides : (l r : Tree) (left right : Option LeafView) → left ≡ lone_leaf l → right ≡ lone_leaf r → ShouldBeOne left right ↔ AreAlike l r
+alike_sides l r left right el er =
+    subst (λ (o : Option LeafView). ShouldBeOne o right ↔ AreAlike l r) (sym el) (subst (λ (o : Option LeafView). ShouldBeOne (lone_leaf l) o ↔ AreAlike l r) (sym er) (alike_tells l r))
+
+sibling_tells : (t : Tree) → IsLoneSibling (lone_leaf t) ↔ IsSiblingTip t
+sibling_tells (Tip (leaves.Records rs)) = (λ h. h, λ h. h)
+sibling_tells (Tip (leaves.Child page)) = (λ h. h, λ h. h)
+sibling_tells (Tip (leaves.Sibling page)) = (λ h. h, λ h. h)
+sibling_tells (Cut axis value below from) = (λ h. h, λ h. h)
+
+pub sibling_root : (t : Tree) (leaf : Option LeafView) → leaf ≡ lone_leaf t → IsLoneSibling leaf ↔ IsSiblingTip t
+sibling_root t leaf e = subst (λ (o : Option LeafView). IsLoneSibling o ↔ IsSiblingTip t) (sym e) (sibling_tells t)
 
 -- ---- a cut
 
@@ -195,16 +233,19 @@ cut_is : (k : ℕ) (bytes left : List ℕ) (axis value : ℕ) → PlaneAt k byte
 unfolding cut_at
 cut_is k bytes left axis value plane = rw (plane.attribute, plane.number) refl
 
-pub cut_passed : (k level axis value : ℕ) (area below above : Area) (before between after : ℕ) (bytes left right rest : List ℕ) → PlaneAt k bytes axis value left → Cuts area axis value → below ≡ side_below area axis value → above ≡ side_from area axis value
-    → PassesOver level below before between (tree_at k left) right → PassesOver level above between after (tree_at k right) rest → ¬ (AreAlike (tree_there k left) (tree_there k right)) → PassesOver level area before after (cut_at (tree_at k) k bytes) rest
-cut_passed k level axis value area below above before between after bytes left right rest plane cuts eb ea p q other = record {
+cut_passed : (k level axis value : ℕ) (area below above : Area) (before : ℕ) (bytes left : List ℕ) (first second passed : Passed) → PlaneAt k bytes axis value left → Cuts area axis value → below ≡ side_below area axis value → above ≡ side_from area axis value
+    → (p : PassesOver level below before (tree_at k left) first) → (q : PassesOver level above first.weight (tree_at k first.rest.now) second) → ¬ (ShouldBeOne first.leaf second.leaf)
+    → passed.rest.now ≡ second.rest.now → passed.weight ≡ second.weight → passed.leaf ≡ None → PassesOver level area before (cut_at (tree_at k) k bytes) passed
+cut_passed k level axis value area below above before bytes left first second passed plane cuts eb ea p q other rest weight leaf = record {
   tree = Cut axis value p.tree q.tree;
   there = cut_is k bytes left axis value plane
   ∙ ap (λ (o : Option (Tree × List ℕ)). o >>= λ l. tree_at k l.1 >>= λ r. Some (Cut axis value l.0 r.0, r.1)) p.there
-  ∙ ap (λ (o : Option (Tree × List ℕ)). o >>= λ r. Some (Cut axis value p.tree r.0, r.1)) q.there;
+  ∙ ap (λ (o : Option (Tree × List ℕ)). o >>= λ r. Some (Cut axis value p.tree r.0, r.1)) q.there
+  ∙ ap (λ (b : List ℕ). Some (Cut axis value p.tree q.tree, b)) (sym rest);
   well_made = cut_well_made level axis value area p.tree q.tree cuts (subst (λ (a : Area). IsTreeWellMade level a p.tree) eb p.well_made) (subst (λ (a : Area). IsTreeWellMade level a q.tree) ea q.well_made)
-  (λ alike. other (subst (λ (t : Tree). AreAlike (tree_there k left) t) (sym (ap tree_or q.there)) (subst (λ (t : Tree). AreAlike t q.tree) (sym (ap tree_or p.there)) alike)));
-  weight = omega (arith, p.weight, q.weight, weight_cut axis value p.tree q.tree);
+  (λ alike. other ((alike_sides p.tree q.tree first.leaf second.leaf p.leaf q.leaf).1 alike));
+  weight = omega (arith, weight, p.weight, q.weight, weight_cut axis value p.tree q.tree);
+  leaf = leaf;
 }
 
 -- a side has as many attributes
@@ -237,12 +278,23 @@ right_stops k level axis value area above bytes left right tree plane e ea stopp
     at_value (tree_at k right) (λ x. ¬ (IsTreeWellMade level above x.0)) r (ap (tree_at k) (same_behind k left right tree l e el) ∙ er) stopped
     (subst (λ (a : Area). IsTreeWellMade level a r.0) (sym ea) (from_well_made level axis value area l.0 r.0 made)))
 
-pub alike_stops : (k level axis value : ℕ) (area : Area) (bytes left right : List ℕ) (tree : Tree) → PlaneAt k bytes axis value left → tree_at k left ≡ Some (tree, right) → AreAlike (tree_there k left) (tree_there k right)
-    → IfSome (cut_at (tree_at k) k bytes) (λ x. ¬ (IsTreeWellMade level area x.0))
-alike_stops k level axis value area bytes left right tree plane e alike =
+alike_stops : (k level axis value : ℕ) (area below above : Area) (before : ℕ) (bytes left : List ℕ) (first second : Passed) → PlaneAt k bytes axis value left → (p : PassesOver level below before (tree_at k left) first)
+    → (q : PassesOver level above first.weight (tree_at k first.rest.now) second) → ShouldBeOne first.leaf second.leaf → IfSome (cut_at (tree_at k) k bytes) (λ x. ¬ (IsTreeWellMade level area x.0))
+alike_stops k level axis value area below above before bytes left first second plane p q one =
     cut_stops k level axis value area bytes left plane (λ l r el er. λ made.
-    let there : tree_at k right ≡ Some r = ap (tree_at k) (same_behind k left right tree l e el) ∙ er in
-    made.normal.0 (subst (λ (t : Tree). AreAlike l.0 t) (ap tree_or there) (subst (λ (t : Tree). AreAlike t (tree_there k right)) (ap tree_or el) alike)))
+    let same_left : p.tree ≡ l.0 = ap (λ (x : Tree × List ℕ). x.0) (one_value (tree_at k left) (p.tree, first.rest.now) l p.there el) in
+    let there : tree_at k first.rest.now ≡ Some r = ap (tree_at k) (same_behind k left first.rest.now p.tree l p.there el) ∙ er in
+    let same_right : q.tree ≡ r.0 = ap (λ (x : Tree × List ℕ). x.0) (one_value (tree_at k first.rest.now) (q.tree, second.rest.now) r q.there there) in
+    let alike = (alike_sides p.tree q.tree first.leaf second.leaf p.leaf q.leaf).0 one in
+    made.normal.0 (subst (λ (t : Tree). AreAlike l.0 t) same_right (subst (λ (t : Tree). AreAlike t q.tree) same_left alike)))
+
+-- at a cut whose sides were passed
+pub cut_judged : (k level axis value : ℕ) (area below above : Area) (before : ℕ) (bytes left : List ℕ) (first second passed : Passed) (alike : Bool) → PlaneAt k bytes axis value left → Cuts area axis value → below ≡ side_below area axis value → above ≡ side_from area axis value
+    → PassesOver level below before (tree_at k left) first → PassesOver level above first.weight (tree_at k first.rest.now) second → (IsTrue alike ↔ ShouldBeOne first.leaf second.leaf)
+    → passed.rest.now ≡ second.rest.now → passed.weight ≡ second.weight → passed.leaf ≡ None → GoesPastTree level area before (cut_at (tree_at k) k bytes) passed (not alike)
+cut_judged k level axis value area below above before bytes left first second passed true plane cuts eb ea p q tells rest weight leaf = alike_stops k level axis value area below above before bytes left first second plane p q (tells.0 refl)
+cut_judged k level axis value area below above before bytes left first second passed false plane cuts eb ea p q tells rest weight leaf =
+    cut_passed k level axis value area below above before bytes left first second passed plane cuts eb ea p q (λ one. false≢true (tells.1 one)) rest weight leaf
 
 -- ---- a page in use
 
@@ -267,15 +319,15 @@ module _ (k height dcap icap : ℕ) where
   abbrev Keeps : Page → Type 0
   Keeps page = KeepsRules (meta_with k height dcap icap) page
 
-  pub live_passed : (bytes : List ℕ) (level n : ℕ) (area : Area) (tree rest : List ℕ) (weight : ℕ) → HeadAt bytes level n area tree → level < height → n ≡ k → PassesOver level area 0 weight (tree_at n tree) rest
-      → weight ≤ capacity_of level dcap icap → ¬ (IsSiblingTip (tree_there n tree)) → GoesPast Keeps (live_at bytes) (Some rest)
-  live_passed bytes level n area tree rest weight at low same p light own = (
+  pub live_passed : (bytes : List ℕ) (level n : ℕ) (area : Area) (tree : List ℕ) (passed : Passed) → HeadAt bytes level n area tree → level < height → n ≡ k → (p : PassesOver level area 0 (tree_at n tree) passed)
+      → passed.weight ≤ capacity_of level dcap icap → ¬ (IsLoneSibling passed.leaf) → GoesPast Keeps (live_at bytes) (Some passed.rest.now)
+  live_passed bytes level n area tree passed at low same p light own = (
     Live (record { level = level; area = area; frag = p.tree }),
     live_is bytes level n area tree at ∙ ap (λ (o : Option (Tree × List ℕ)). o >>= λ t. Some (Live (record { level = level; area = area; frag = t.0 }), t.1)) p.there,
     record {
       fits = record { level = low; attributes = box_count n at.corners (area, tree) at.box ∙ same };
       well_cut = p.well_made.well_cut;
-      filled = record { kinds = p.well_made.kinds; light = omega (arith, p.weight, light); own = λ tip. own (subst IsSiblingTip (sym (ap tree_or p.there)) tip) };
+      filled = record { kinds = p.well_made.kinds; light = omega (arith, p.weight, light); own = λ tip. own ((sibling_root p.tree passed.leaf p.leaf).1 tip) };
       in_order = p.well_made.in_order;
       normal = p.well_made.normal;
     },
@@ -316,11 +368,11 @@ module _ (k height dcap icap : ℕ) where
       of_value (live_at bytes) (λ x. ¬ (Keeps x.0)) (Live (record { level = level; area = area; frag = whole }), rest)
       (live_is bytes level n area tree at ∙ ap (λ (o : Option (Tree × List ℕ)). o >>= λ t. Some (Live (record { level = level; area = area; frag = t.0 }), t.1)) there) (λ keeps. never keeps.filled)
 
-  pub live_too_heavy : (bytes : List ℕ) (level n : ℕ) (area : Area) (tree rest : List ℕ) (weight : ℕ) → HeadAt bytes level n area tree → PassesOver level area 0 weight (tree_at n tree) rest → capacity_of level dcap icap < weight → IfSome (live_at bytes) (λ x. ¬ (Keeps x.0))
-  live_too_heavy bytes level n area tree rest weight at p heavy = live_overfull bytes level n area tree rest p.tree at p.there (λ filled. absurd (omega (arith, heavy, p.weight, filled.light)))
+  pub live_too_heavy : (bytes : List ℕ) (level n : ℕ) (area : Area) (tree : List ℕ) (passed : Passed) → HeadAt bytes level n area tree → PassesOver level area 0 (tree_at n tree) passed → capacity_of level dcap icap < passed.weight → IfSome (live_at bytes) (λ x. ¬ (Keeps x.0))
+  live_too_heavy bytes level n area tree passed at p heavy = live_overfull bytes level n area tree passed.rest.now p.tree at p.there (λ filled. absurd (omega (arith, heavy, p.weight, filled.light)))
 
-  pub live_lone_sibling : (bytes : List ℕ) (level n : ℕ) (area : Area) (tree rest : List ℕ) (weight : ℕ) → HeadAt bytes level n area tree → PassesOver level area 0 weight (tree_at n tree) rest → IsSiblingTip (tree_there n tree) → IfSome (live_at bytes) (λ x. ¬ (Keeps x.0))
-  live_lone_sibling bytes level n area tree rest weight at p lone = live_overfull bytes level n area tree rest p.tree at p.there (λ filled. filled.own (subst IsSiblingTip (ap tree_or p.there) lone))
+  pub live_lone_sibling : (bytes : List ℕ) (level n : ℕ) (area : Area) (tree : List ℕ) (passed : Passed) → HeadAt bytes level n area tree → PassesOver level area 0 (tree_at n tree) passed → IsLoneSibling passed.leaf → IfSome (live_at bytes) (λ x. ¬ (Keeps x.0))
+  live_lone_sibling bytes level n area tree passed at p lone = live_overfull bytes level n area tree passed.rest.now p.tree at p.there (λ filled. filled.own ((sibling_root p.tree passed.leaf p.leaf).0 lone))
 
 -- ---- a page
 

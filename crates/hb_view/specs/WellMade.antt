@@ -1,10 +1,10 @@
 -- Bytes that spell a page that keeps all rules that speak of it alone, and what one walk over them goes past.
-use Rattle.std.specs.Prelude.{◌≡◌, ℕ, ◌+◌, List, All, Option, Some, None, IfSome, IsSomeAnd}
+use Rattle.std.specs.Prelude.{◌≡◌, ℕ, ◌+◌, Bool, true, false, List, All, Option, Some, None, IfSome, IsSomeAnd}
 use Rattle.hb_space.specs.Boxes.{Area}
 use Rattle.hb_frag.specs.declared.leaves.Leaf.{Leaf}
 use Rattle.hb_frag.specs.declared.pages.Page.{Page}
 use Rattle.hb_frag.specs.declared.pages.Page.TheVariants.{Live, Free}
-use Rattle.hb_frag.specs.Trees.{Tree, Tip}
+use Rattle.hb_frag.specs.Trees.{Tree, Tip, Cut}
 use Rattle.hb_frag.specs.Leaves.{IsWellCut, leaves, leaves_of, weight_of}
 use Rattle.hb_frag.specs.Rules.{BelongsAt, IsInOrder, IsNormal}
 use Rattle.hb_layout.specs.declared.meta.Meta.{Meta}
@@ -12,6 +12,10 @@ use Rattle.hb_ops.specs.Sound.{FitsFile}
 use Rattle.hb_lemmas.specs.Options.{◌>>=◌}
 use Rattle.hb_page_codec.specs.Reading.{number_at}
 use Rattle.hb_page_codec.specs.ReadingPages.{page_of_bytes}
+use Rattle.hb_view.specs.Views.{leaf_view}
+use Rattle.hb_view.specs.declared.leaves.LeafView.{LeafView}
+use Rattle.hb_view.specs.declared.leaves.LeafView.TheVariants as views
+use Rattle.hb_view.specs.declared.well_made.Passed.{Passed}
 
 -- a page in use keeps the rules that speak of it alone; of a free one they ask nothing
 abbrev pub KeepsRules : Meta → Page → Type 0
@@ -47,15 +51,32 @@ pub record IsTreeWellMade (level : ℕ) (area : Area) (tree : Tree) : Type 0 whe
   pub in_order : All IsInOrder (leaves_of tree area)
   pub normal : IsNormal tree
 
--- What a walk went past: a tree that keeps the rules. The bytes behind it are handed on, and what was weighed before weighs more by
--- the tree.
-pub record PassesOver (level : ℕ) (area : Area) (before after : ℕ) (read : Option (Tree × List ℕ)) (rest : List ℕ) : Type 0 where
+-- the leaf that a tree is, where it has no cut
+abbrev pub lone_leaf : Tree → Option LeafView
+lone_leaf (Tip leaf) = Some (leaf_view leaf)
+lone_leaf (Cut axis value left right) = None
+
+-- two sides that should be one leaf, told from the leaves that they are
+abbrev pub ShouldBeOne : Option LeafView → Option LeafView → Type 0
+ShouldBeOne (Some views.Records) (Some views.Records) = Unit {0}
+ShouldBeOne (Some (views.Child page)) (Some (views.Child other)) = page ≡ other
+ShouldBeOne _ _ = ⊥
+
+-- one sibling leaf and no more
+abbrev pub IsLoneSibling : Option LeafView → Type 0
+IsLoneSibling (Some (views.Sibling page)) = Unit {0}
+IsLoneSibling _ = ⊥
+
+-- What a walk went past: a tree that keeps the rules. The walk came to the bytes behind it, what was weighed weighs more by the tree,
+-- and the walk knows the leaf that it is, where it has no cut.
+pub record PassesOver (level : ℕ) (area : Area) (before : ℕ) (read : Option (Tree × List ℕ)) (passed : Passed) : Type 0 where
   pub tree : Tree
-  pub there : read ≡ Some (tree, rest)
+  pub there : read ≡ Some (tree, passed.rest.now)
   pub well_made : IsTreeWellMade level area tree
-  pub weight : after ≡ before + weight_of tree
+  pub weight : passed.weight ≡ before + weight_of tree
+  pub leaf : passed.leaf ≡ lone_leaf tree
 
 -- It goes past such a tree. Where it stops, no tree stands there, or one that breaks a rule.
-abbrev pub GoesPastTree : ℕ → Area → ℕ → ℕ → Option (Tree × List ℕ) → Option (List ℕ) → Type 0
-GoesPastTree level area before after read (Some rest) = PassesOver level area before after read rest
-GoesPastTree level area before after read None = IfSome read (λ x. ¬ (IsTreeWellMade level area x.0))
+abbrev pub GoesPastTree : ℕ → Area → ℕ → Option (Tree × List ℕ) → Passed → Bool → Type 0
+GoesPastTree level area before read passed true = PassesOver level area before read passed
+GoesPastTree level area before read passed false = IfSome read (λ x. ¬ (IsTreeWellMade level area x.0))

@@ -51,7 +51,7 @@ fn all_belong(tree: &TreeView<'_>, level: u8) -> bool
 }
 
 // Whether all of the tree is one sibling leaf.
-pub(crate) fn is_sibling(tree: &TreeView<'_>) -> bool
+fn is_sibling(tree: &TreeView<'_>) -> bool
     ensures { IsTrue result ↔ IsSiblingTip (tree_seen tree.now) }
 {
     match root_of(tree) {

@@ -76,7 +76,7 @@ pub(crate) fn behind_kinds<'a>(tree: &TreeView<'a>, level: u8) -> Option<&'a [u8
 }
 
 /// Whether two sides should be one leaf.
-pub(crate) fn are_alike(left: &TreeView<'_>, right: &TreeView<'_>) -> bool
+fn are_alike(left: &TreeView<'_>, right: &TreeView<'_>) -> bool
     ensures { IsTrue result ↔ AreAlike (tree_seen left.now) (tree_seen right.now) }
 {
     match (root_of(left), root_of(right)) {

@@ -12,21 +12,32 @@ ghost use Rattle.hb_page_codec.specs.ReadingPages.{cut_at, records_tip_at, node_
 ghost use Rattle.hb_view.specs.Corners.{point_there};
 ghost use Rattle.hb_view.specs.Limits.{meta_with};
 ghost use Rattle.hb_view.specs.Walks.{ComesBehind, RiseFrom};
-ghost use Rattle.hb_view.specs.WellMade.{GoesPast, GoesPastTree, KeepsRules, SpellWellMade, free_at, named_at};
+ghost use Rattle.hb_view.specs.WellMade.{GoesPast, GoesPastTree, IsLoneSibling, KeepsRules, ShouldBeOne, SpellWellMade, free_at, named_at};
 
+use crate::LeafView;
 use crate::bounds::Bounds;
-use crate::broken::{Limits, is_sibling};
+use crate::broken::Limits;
 use crate::corners::value_at;
 use crate::lists::parts_of;
-use crate::rules::{are_alike, cuts};
+use crate::rules::cuts;
 use crate::skipping::behind_name;
-use crate::trees::TreeView;
 use hb_frag::capacity_of;
 use hb_lemmas::is_zero;
 use hb_page_codec::{axis_of, count_of, head_of, u32_of, u64_of};
 use hb_space::Attributes;
 use hb_space::form::PAGE;
 use std::cmp::Ordering;
+
+/// How far a walk over trees came.
+#[derive(Clone, Copy)]
+pub(crate) struct Passed<'a> {
+    /// The bytes behind the last tree.
+    pub rest: &'a [u8],
+    /// What all of them weigh together.
+    pub weight: u32,
+    /// The leaf that the last tree is, where it has no cut.
+    pub leaf: Option<LeafView>,
+}
 
 /// How two points compare, by the values in front of one of the second point, and by that value.
 fn compared_at(k: Attributes, order: Ordering, last: &[u8], axis: usize, value: u64) -> Ordering
@@ -112,106 +123,148 @@ fn past_records<'a>(k: Attributes, bounds: &Bounds, count: u16, bytes: &'a [u8])
 
 /// Goes past a leaf of records, from behind its tag.
 #[tactic(auto, unfolding(hb_page_codec::specs::ReadingPages::records_tip_at))]
-fn past_list<'a>(k: Attributes, level: u8, bounds: &Bounds, weight: &mut u32, bytes: &'a [u8]) -> Option<&'a [u8]>
+fn past_list<'a>(k: Attributes, level: u8, bounds: &Bounds, passed: &mut Passed<'a>, bytes: &'a [u8]) -> bool
     requires same { length bounds.now.lo ≡ k.number }
-    requires few { weight.old + length bytes.now < PAGE }
-    ensures passes { GoesPastTree level bounds.now weight.old weight.new (records_tip_at k.number bytes.now) (option_map (λ b. b.now) result) }
-    ensures light { IfSome result (λ rest. weight.new + length rest.now ≤ weight.old + 1 + length bytes.now) }
+    requires few { passed.old.weight + length bytes.now < PAGE }
+    ensures passes { GoesPastTree level bounds.now passed.old.weight (records_tip_at k.number bytes.now) passed.new result }
+    ensures light { IsTrue result → passed.new.weight + length passed.new.rest.now ≤ passed.old.weight + 1 + length bytes.now }
 {
     if level > 0 {
-        return None;
+        return false;
     }
-    let (count, first) = count_of(k, bytes)?;
-    let rest = past_records(k, bounds, count, first)?;
-    *weight += u32::from(count).max(1);
-    Some(rest)
+    let Some((count, first)) = count_of(k, bytes) else {
+        return false;
+    };
+    let Some(rest) = past_records(k, bounds, count, first) else {
+        return false;
+    };
+    passed.rest = rest;
+    passed.weight += u32::from(count).max(1);
+    passed.leaf = Some(LeafView::Records);
+    true
 }
 
 /// Goes past a leaf that names a page one level down, from behind its tag.
-fn past_child<'a>(level: u8, weight: &mut u32, bytes: &'a [u8]) -> Option<&'a [u8]>
-    requires few { weight.old + length bytes.now < PAGE }
-    ensures passes { (area : Extent) → GoesPastTree level area weight.old weight.new (named_at Child bytes.now) (option_map (λ b. b.now) result) }
-    ensures light { IfSome result (λ rest. weight.new + length rest.now ≤ weight.old + 1 + length bytes.now) }
+fn past_child<'a>(level: u8, passed: &mut Passed<'a>, bytes: &'a [u8]) -> bool
+    requires few { passed.old.weight + length bytes.now < PAGE }
+    ensures passes { (area : Extent) → GoesPastTree level area passed.old.weight (named_at Child bytes.now) passed.new result }
+    ensures light { IsTrue result → passed.new.weight + length passed.new.rest.now ≤ passed.old.weight + 1 + length bytes.now }
 {
     if level == 0 {
-        return None;
+        return false;
     }
-    let (_page, rest) = u32_of(bytes)?;
-    *weight += 1;
-    Some(rest)
+    let Some((page, rest)) = u32_of(bytes) else {
+        return false;
+    };
+    passed.rest = rest;
+    passed.weight += 1;
+    passed.leaf = Some(LeafView::Child(page));
+    true
 }
 
 /// Goes past a leaf that names a page of the same level, from behind its tag.
-fn past_sibling<'a>(level: u8, weight: &mut u32, bytes: &'a [u8]) -> Option<&'a [u8]>
-    requires few { weight.old + length bytes.now < PAGE }
-    ensures passes { (area : Extent) → GoesPastTree level area weight.old weight.new (named_at Sibling bytes.now) (option_map (λ b. b.now) result) }
-    ensures light { IfSome result (λ rest. weight.new + length rest.now ≤ weight.old + 1 + length bytes.now) }
+fn past_sibling<'a>(level: u8, passed: &mut Passed<'a>, bytes: &'a [u8]) -> bool
+    requires few { passed.old.weight + length bytes.now < PAGE }
+    ensures passes { (area : Extent) → GoesPastTree level area passed.old.weight (named_at Sibling bytes.now) passed.new result }
+    ensures light { IsTrue result → passed.new.weight + length passed.new.rest.now ≤ passed.old.weight + 1 + length bytes.now }
 {
-    let (_page, rest) = u32_of(bytes)?;
-    *weight += 1;
-    Some(rest)
+    let Some((page, rest)) = u32_of(bytes) else {
+        return false;
+    };
+    passed.rest = rest;
+    passed.weight += 1;
+    passed.leaf = Some(LeafView::Sibling(page));
+    true
+}
+
+/// Whether two sides should be one leaf, told from the leaf that each of them is.
+fn are_alike(left: Option<LeafView>, right: Option<LeafView>) -> bool
+    ensures { IsTrue result ↔ ShouldBeOne left right }
+{
+    match (left, right) {
+        (Some(LeafView::Records), Some(LeafView::Records)) => true,
+        (Some(LeafView::Child(page)), Some(LeafView::Child(other))) => page == other,
+        _ => false,
+    }
 }
 
 /// Goes past a cut, from behind its tag. The box stays as it is.
 #[cycle(trees)]
 #[tactic(auto, unfolding(hb_page_codec::specs::ReadingPages::cut_at))]
-fn past_cut<'a>(k: Attributes, level: u8, bounds: &mut Bounds, weight: &mut u32, bytes: &'a [u8]) -> Option<&'a [u8]>
+fn past_cut<'a>(k: Attributes, level: u8, bounds: &mut Bounds, passed: &mut Passed<'a>, bytes: &'a [u8]) -> bool
     requires same { length bounds.old.lo ≡ k.number }
-    requires few { weight.old + length bytes.now ≤ PAGE }
-    ensures passes { GoesPastTree level bounds.old weight.old weight.new (cut_at (tree_at k.number) k.number bytes.now) (option_map (λ b. b.now) result) }
-    ensures light { IfSome result (λ rest. weight.new + length rest.now ≤ weight.old + length bytes.now) }
+    requires few { passed.old.weight + length bytes.now ≤ PAGE }
+    ensures passes { GoesPastTree level bounds.old passed.old.weight (cut_at (tree_at k.number) k.number bytes.now) passed.new result }
+    ensures light { IsTrue result → passed.new.weight + length passed.new.rest.now ≤ passed.old.weight + length bytes.now }
     ensures back { bounds.new ≡ bounds.old }
 {
-    let (axis, rest) = axis_of(k, bytes)?;
-    let (value, left) = u64_of(rest)?;
+    let Some((axis, rest)) = axis_of(k, bytes) else {
+        return false;
+    };
+    let Some((value, left)) = u64_of(rest) else {
+        return false;
+    };
     if !cuts(bounds, axis, value) {
-        return None;
+        return false;
     }
     let greatest = bounds.take_below(axis, value);
-    let below = past_tree(k, level, bounds, weight, left);
+    let below = past_tree(k, level, bounds, passed, left);
     bounds.put_hi(axis, greatest);
-    let right = below?;
-    let least = bounds.take_from(axis, value);
-    let from = past_tree(k, level, bounds, weight, right);
-    bounds.put_lo(axis, least);
-    let behind = from?;
-    let left = TreeView { k, bytes: left };
-    let right = TreeView { k, bytes: right };
-    if are_alike(&left, &right) {
-        return None;
+    if !below {
+        return false;
     }
-    Some(behind)
+    let right = passed.rest;
+    let leaf = passed.leaf;
+    let least = bounds.take_from(axis, value);
+    let from = past_tree(k, level, bounds, passed, right);
+    bounds.put_lo(axis, least);
+    if !from {
+        return false;
+    }
+    let alike = are_alike(leaf, passed.leaf);
+    passed.leaf = None;
+    !alike
 }
 
 /// Goes past a tree by its root. The box stays as it is.
 #[cycle(trees)]
 #[tactic(auto, unfolding(hb_page_codec::specs::ReadingPages::node_at))]
-fn past_root<'a>(k: Attributes, level: u8, bounds: &mut Bounds, weight: &mut u32, bytes: &'a [u8]) -> Option<&'a [u8]>
+fn past_root<'a>(k: Attributes, level: u8, bounds: &mut Bounds, passed: &mut Passed<'a>, bytes: &'a [u8]) -> bool
     requires same { length bounds.old.lo ≡ k.number }
-    requires few { weight.old + length bytes.now ≤ PAGE }
-    ensures passes { GoesPastTree level bounds.old weight.old weight.new (node_at (tree_at k.number) k.number bytes.now) (option_map (λ b. b.now) result) }
-    ensures light { IfSome result (λ rest. weight.new + length rest.now ≤ weight.old + length bytes.now) }
+    requires few { passed.old.weight + length bytes.now ≤ PAGE }
+    ensures passes { GoesPastTree level bounds.old passed.old.weight (node_at (tree_at k.number) k.number bytes.now) passed.new result }
+    ensures light { IsTrue result → passed.new.weight + length passed.new.rest.now ≤ passed.old.weight + length bytes.now }
     ensures back { bounds.new ≡ bounds.old }
 {
     match bytes {
-        [0, rest @ ..] => past_cut(k, level, bounds, weight, rest),
-        [1, rest @ ..] => past_list(k, level, bounds, weight, rest),
-        [2, rest @ ..] => past_child(level, weight, rest),
-        [3, rest @ ..] => past_sibling(level, weight, rest),
-        _ => None,
+        [0, rest @ ..] => past_cut(k, level, bounds, passed, rest),
+        [1, rest @ ..] => past_list(k, level, bounds, passed, rest),
+        [2, rest @ ..] => past_child(level, passed, rest),
+        [3, rest @ ..] => past_sibling(level, passed, rest),
+        _ => false,
     }
 }
 
 /// Goes past a tree of this level with this box that keeps the rules, and adds what it weighs. The box stays as it is.
 #[cycle(trees)]
-fn past_tree<'a>(k: Attributes, level: u8, bounds: &mut Bounds, weight: &mut u32, bytes: &'a [u8]) -> Option<&'a [u8]>
+fn past_tree<'a>(k: Attributes, level: u8, bounds: &mut Bounds, passed: &mut Passed<'a>, bytes: &'a [u8]) -> bool
     requires same { length bounds.old.lo ≡ k.number }
-    requires few { weight.old + length bytes.now ≤ PAGE }
-    ensures passes { GoesPastTree level bounds.old weight.old weight.new (tree_at k.number bytes.now) (option_map (λ b. b.now) result) }
-    ensures light { IfSome result (λ rest. weight.new + length rest.now ≤ weight.old + length bytes.now) }
+    requires few { passed.old.weight + length bytes.now ≤ PAGE }
+    ensures passes { GoesPastTree level bounds.old passed.old.weight (tree_at k.number bytes.now) passed.new result }
+    ensures light { IsTrue result → passed.new.weight + length passed.new.rest.now ≤ passed.old.weight + length bytes.now }
     ensures back { bounds.new ≡ bounds.old }
 {
-    past_root(k, level, bounds, weight, bytes)
+    past_root(k, level, bounds, passed, bytes)
+}
+
+/// Whether all of the tree is one sibling leaf, told from the leaf that it is.
+fn is_sibling(leaf: Option<LeafView>) -> bool
+    ensures { IsTrue result ↔ IsLoneSibling leaf }
+{
+    match leaf {
+        Some(LeafView::Sibling(_)) => true,
+        _ => false,
+    }
 }
 
 /// Goes past a page in use that keeps the rules, from behind its tag.
@@ -228,16 +281,21 @@ fn past_live(bytes: &[u8], limits: Limits) -> Option<&[u8]>
     }
     let (area, tree) = Bounds::read(k, rest)?;
     let mut bounds = area;
-    let mut weight = 0;
-    let behind = past_tree(k, level, &mut bounds, &mut weight, tree)?;
-    if weight > u32::from(capacity_of(level, limits.dcap, limits.icap)) {
+    let mut passed = Passed {
+        rest: tree,
+        weight: 0,
+        leaf: None,
+    };
+    if !past_tree(k, level, &mut bounds, &mut passed, tree) {
         return None;
     }
-    let tree = TreeView { k, bytes: tree };
-    if is_sibling(&tree) {
+    if passed.weight > u32::from(capacity_of(level, limits.dcap, limits.icap)) {
         return None;
     }
-    Some(behind)
+    if is_sibling(passed.leaf) {
+        return None;
+    }
+    Some(passed.rest)
 }
 
 /// Goes past a free page, from behind its tag.

@@ -1,9 +1,8 @@
 use Rattle.std.proofs.Common.{ℕ, ap, length, List, refl, sym, ◌≡◌, ◌∙◌, arith}
 use Rattle.std.proofs.lemmas.Bool.{false≢true}
-use Rattle.hb_lemmas.proofs.Options.{has_value}
 use Rattle.hb_page_codec.specs.ReadingPages.{tree_at}
 use Rattle.hb_page_codec.proofs.Facts.PageLaws.{head_takes}
-use Rattle.hb_view.proofs.PassedOver.{HeadAt, live_boxless, live_headless, live_lone_sibling, live_other_count, live_passed, live_stopped, live_too_heavy, live_too_high}
+use Rattle.hb_view.proofs.PassedOver.{HeadAt, has_stopped, live_boxless, live_headless, live_lone_sibling, live_other_count, live_passed, live_stopped, live_too_heavy, live_too_high, went_past}
 use Rattle.hb_view.proofs.well_made.past_live.Goals as goal
 
 pub returns-in_err-level : goal.returns-in_err-level
@@ -29,31 +28,30 @@ past_tree-requires-clause-few c =
     let head = head_takes c.args.bytes.now (c.in_ok-level.level, c.in_ok-level.k.number, c.in_ok-level.rest.now) (λ i. omega (arith, c.type_inv.bytes i)) c.in_ok-level.ensures in
     omega (arith, ap (λ (l : List ℕ). length l) head.parts, c.in_ok-area.ensures.shorter, c.requires.short)
 
-pub returns-in_err-behind : goal.returns-in_err-behind
-returns-in_err-behind c =
+pub returns-then-not-past_tree : goal.returns-then-not-past_tree
+returns-then-not-past_tree c =
     let l = c.args.limits in
     let at : HeadAt c.args.bytes.now c.in_ok-level.level c.in_ok-level.k.number c.in_ok-area.area c.in_ok-area.tree.now = record { corners = c.in_ok-level.rest.now; head = c.in_ok-level.ensures; box = c.in_ok-area.ensures.reads } in
-    rw c.from_residual-in_err-behind.ensures (live_stopped l.k l.height l.dcap l.icap c.args.bytes.now c.in_ok-level.level c.in_ok-level.k.number c.in_ok-area.area c.in_ok-area.tree.now at c.in_err-behind.ensures.passes)
+    live_stopped l.k l.height l.dcap l.icap c.args.bytes.now c.in_ok-level.level c.in_ok-level.k.number c.in_ok-area.area c.in_ok-area.tree.now at (has_stopped c.in_ok-level.level c.in_ok-area.area 0 (tree_at c.in_ok-level.k.number c.in_ok-area.tree.now) c.past_tree.new.passed c.past_tree.result c.past_tree.ensures.passes c.if-not-past_tree.true)
 
--- a tree stands where the walk went past one
-pub invariant_of-tree : goal.invariant_of-tree
-invariant_of-tree c = let p = c.in_ok-behind.ensures.passes in record { there = has_value (tree_at c.in_ok-level.k.number c.in_ok-area.tree.now) (p.tree, c.in_ok-behind.behind.now) p.there }
-
-pub returns-then-weight-from : goal.returns-then-weight-from
-returns-then-weight-from c =
+pub returns-then-passed-from : goal.returns-then-passed-from
+returns-then-passed-from c =
     let l = c.args.limits in
     let at : HeadAt c.args.bytes.now c.in_ok-level.level c.in_ok-level.k.number c.in_ok-area.area c.in_ok-area.tree.now = record { corners = c.in_ok-level.rest.now; head = c.in_ok-level.ensures; box = c.in_ok-area.ensures.reads } in
-    live_too_heavy l.k l.height l.dcap l.icap c.args.bytes.now c.in_ok-level.level c.in_ok-level.k.number c.in_ok-area.area c.in_ok-area.tree.now c.in_ok-behind.behind.now c.past_tree.new.weight at c.in_ok-behind.ensures.passes (omega (arith, c.if-weight-from.true, c.from.ensures, c.capacity_of.ensures))
+    let p = went_past c.in_ok-level.level c.in_ok-area.area 0 (tree_at c.in_ok-level.k.number c.in_ok-area.tree.now) c.past_tree.new.passed c.past_tree.result c.past_tree.ensures.passes c.if-not-past_tree.false in
+    live_too_heavy l.k l.height l.dcap l.icap c.args.bytes.now c.in_ok-level.level c.in_ok-level.k.number c.in_ok-area.area c.in_ok-area.tree.now c.past_tree.new.passed at p (omega (arith, c.if-passed-from.true, c.from.ensures, c.capacity_of.ensures))
 
 pub returns-then-is_sibling : goal.returns-then-is_sibling
 returns-then-is_sibling c =
     let l = c.args.limits in
     let at : HeadAt c.args.bytes.now c.in_ok-level.level c.in_ok-level.k.number c.in_ok-area.area c.in_ok-area.tree.now = record { corners = c.in_ok-level.rest.now; head = c.in_ok-level.ensures; box = c.in_ok-area.ensures.reads } in
-    live_lone_sibling l.k l.height l.dcap l.icap c.args.bytes.now c.in_ok-level.level c.in_ok-level.k.number c.in_ok-area.area c.in_ok-area.tree.now c.in_ok-behind.behind.now c.past_tree.new.weight at c.in_ok-behind.ensures.passes (c.is_sibling.ensures.0 c.if-is_sibling.true)
+    let p = went_past c.in_ok-level.level c.in_ok-area.area 0 (tree_at c.in_ok-level.k.number c.in_ok-area.tree.now) c.past_tree.new.passed c.past_tree.result c.past_tree.ensures.passes c.if-not-past_tree.false in
+    live_lone_sibling l.k l.height l.dcap l.icap c.args.bytes.now c.in_ok-level.level c.in_ok-level.k.number c.in_ok-area.area c.in_ok-area.tree.now c.past_tree.new.passed at p (c.is_sibling.ensures.0 c.if-is_sibling.true)
 
 pub returns : goal.returns
 returns c =
     let l = c.args.limits in
     let at : HeadAt c.args.bytes.now c.in_ok-level.level c.in_ok-level.k.number c.in_ok-area.area c.in_ok-area.tree.now = record { corners = c.in_ok-level.rest.now; head = c.in_ok-level.ensures; box = c.in_ok-area.ensures.reads } in
-    live_passed l.k l.height l.dcap l.icap c.args.bytes.now c.in_ok-level.level c.in_ok-level.k.number c.in_ok-area.area c.in_ok-area.tree.now c.in_ok-behind.behind.now c.past_tree.new.weight at c.if-level-limits.false c.if-k-limits.false c.in_ok-behind.ensures.passes
-    (omega (arith, c.if-weight-from.false, c.from.ensures, c.capacity_of.ensures)) (λ lone. false≢true (sym c.if-is_sibling.false ∙ c.is_sibling.ensures.1 lone))
+    let p = went_past c.in_ok-level.level c.in_ok-area.area 0 (tree_at c.in_ok-level.k.number c.in_ok-area.tree.now) c.past_tree.new.passed c.past_tree.result c.past_tree.ensures.passes c.if-not-past_tree.false in
+    live_passed l.k l.height l.dcap l.icap c.args.bytes.now c.in_ok-level.level c.in_ok-level.k.number c.in_ok-area.area c.in_ok-area.tree.now c.past_tree.new.passed at c.if-level-limits.false c.if-k-limits.false p
+    (omega (arith, c.if-passed-from.false, c.from.ensures, c.capacity_of.ensures)) (λ lone. false≢true (sym c.if-is_sibling.false ∙ c.is_sibling.ensures.1 lone))
