@@ -158,13 +158,6 @@ unfolding records_tip_at
 list_stops k level area bytes never =
     if_then (count_at k bytes) _ _ (λ n en. if_then (records_at k n.0 n.1) _ _ (λ x ex. λ made. at_value (records_at k n.0 n.1) (Rising area None) x ex (never n en (list_kind level area x.0 made)) (list_rises level area x.0 made)))
 
-pub list_too_high : (k level : ℕ) (area : Area) (bytes : List ℕ) → 0 < level → IfSome (records_tip_at k bytes) (λ x. ¬ (IsTreeWellMade level area x.0))
-list_too_high k level area bytes high = list_stops k level area bytes (λ n en ground. absurd (omega (arith, high, ground)))
-
-pub list_uncounted : (k level : ℕ) (area : Area) (bytes : List ℕ) → count_at k bytes ≡ None → IfSome (records_tip_at k bytes) (λ x. ¬ (IsTreeWellMade level area x.0))
-unfolding records_tip_at
-list_uncounted k level area bytes none = rw none tt
-
 pub list_falls : (k level : ℕ) (area : Area) (bytes first : List ℕ) (count : ℕ) → count_at k bytes ≡ Some (count, first) → IfSome (records_at k count first) (Rising area None) → IfSome (records_tip_at k bytes) (λ x. ¬ (IsTreeWellMade level area x.0))
 list_falls k level area bytes first count e falls =
     list_stops k level area bytes (λ n en ground. subst (λ (m : ℕ × List ℕ). IfSome (records_at k m.0 m.1) (Rising area None)) (one_value (count_at k bytes) (count, first) n e en) falls)
@@ -258,9 +251,6 @@ cut_stops : (k level axis value : ℕ) (area : Area) (bytes left : List ℕ) →
 cut_stops k level axis value area bytes left plane never =
     subst (λ (o : Option (Tree × List ℕ)). IfSome o (λ x. ¬ (IsTreeWellMade level area x.0))) (sym (cut_is k bytes left axis value plane))
     (if_then (tree_at k left) (λ l. tree_at k l.1 >>= λ r. Some (Cut axis value l.0 r.0, r.1)) _ (λ l el. if_then (tree_at k l.1) (λ r. Some (Cut axis value l.0 r.0, r.1)) _ (λ r er. never l r el er)))
-
-pub cut_outside : (k level axis value : ℕ) (area : Area) (bytes left : List ℕ) → PlaneAt k bytes axis value left → ¬ (Cuts area axis value) → IfSome (cut_at (tree_at k) k bytes) (λ x. ¬ (IsTreeWellMade level area x.0))
-cut_outside k level axis value area bytes left plane never = cut_stops k level axis value area bytes left plane (λ l r el er. λ made. never made.well_cut.0)
 
 pub left_stops : (k level axis value : ℕ) (area below : Area) (bytes left : List ℕ) → PlaneAt k bytes axis value left → below ≡ side_below area axis value → IfSome (tree_at k left) (λ x. ¬ (IsTreeWellMade level below x.0)) → IfSome (cut_at (tree_at k) k bytes) (λ x. ¬ (IsTreeWellMade level area x.0))
 left_stops k level axis value area below bytes left plane eb stopped =

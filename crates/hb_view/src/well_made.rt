@@ -52,6 +52,13 @@ fn compared_at(k: Attributes, order: Ordering, last: &[u8], axis: usize, value: 
     }
 }
 
+/// Whether the value is neither below the least one nor above the greatest one.
+fn lies_between(least: u64, greatest: u64, value: u64) -> bool
+    ensures { IsTrue result ↔ ((least ≤ value) × (value ≤ greatest)) }
+{
+    least <= value && value <= greatest
+}
+
 /// Whether the box holds the point that stands there.
 fn holds_there(k: Attributes, bounds: &Bounds, key: &[u8]) -> bool
     requires same { length bounds.now.lo ≡ k.number }
@@ -61,7 +68,7 @@ fn holds_there(k: Attributes, bounds: &Bounds, key: &[u8]) -> bool
     let (lo, hi) = bounds.corners();
     for axis in 0..lo.len() {
         let value = value_at(k, key, axis);
-        if value < lo[axis] || hi[axis] < value {
+        if !lies_between(lo[axis], hi[axis], value) {
             return false;
         }
     }
@@ -80,7 +87,7 @@ fn follows_there(k: Attributes, bounds: &Bounds, last: &[u8], key: &[u8]) -> boo
     let mut order = Ordering::Equal;
     for axis in 0..lo.len() {
         let value = value_at(k, key, axis);
-        if value < lo[axis] || hi[axis] < value {
+        if !lies_between(lo[axis], hi[axis], value) {
             return false;
         }
         order = compared_at(k, order, last, axis, value);

@@ -13,7 +13,7 @@ loop-axis-preserved c =
     let last = c.args.last.now in
     let same : length c.corners.result.0.now ≡ k = ap (λ (l : List ℕ). length l) c.corners.ensures.lo ∙ c.requires.same in
     record {
-      between = one_between c.corners.result.0.now c.corners.result.1.now (point_there k key) c.loop-axis.axis c.value_at-value.result c.loop-axis.invariant.between c.value_at-value.ensures c.if-value-lo.false c.if-hi-axis.false;
+      between = one_between c.corners.result.0.now c.corners.result.1.now (point_there k key) c.loop-axis.axis c.value_at-value.result c.loop-axis.invariant.between c.value_at-value.ensures (c.lies_between.ensures.0 c.if-not-lies_between.false).0 (c.lies_between.ensures.0 c.if-not-lies_between.false).1;
       so_far = one_compared (point_there k last) (point_there k key) c.loop-axis.axis c.loop-axis.order _ c.compared_at-order.result (omega (arith, c.loop-axis-test.true, same, point_count k last c.requires.last)) (omega (arith, c.loop-axis-test.true, same, point_count k key c.requires.room))
       c.loop-axis.invariant.so_far (ap (λ (n : ℕ). nat_cmp (get_or (point_there k last) c.loop-axis.axis 0) n) c.value_at-value.ensures) c.compared_at-order.ensures;
     }
