@@ -15,5 +15,6 @@ pub mod Led
 pub mod PlacedAmong
 pub mod Spotted
 pub mod Replaced
+pub mod ListsPassed
 pub mod PassedOver
 pub mod Followed

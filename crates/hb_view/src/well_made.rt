@@ -130,7 +130,13 @@ fn past_records<'a>(k: Attributes, bounds: &Bounds, count: u16, bytes: &'a [u8])
 
 /// Goes past a leaf of records, from behind its tag.
 #[tactic(auto, unfolding(hb_page_codec::specs::ReadingPages::records_tip_at))]
-fn past_list<'a>(k: Attributes, level: u8, bounds: &Bounds, passed: &mut Passed<'a>, bytes: &'a [u8]) -> bool
+fn past_list<'a>(
+    k: Attributes,
+    level: u8,
+    bounds: &Bounds,
+    passed: &mut Passed<'a>,
+    bytes: &'a [u8],
+) -> bool
     requires same { length bounds.now.lo ≡ k.number }
     requires few { passed.old.weight + length bytes.now < PAGE }
     ensures passes { GoesPastTree level bounds.now passed.old.weight (records_tip_at k.number bytes.now) passed.new result }
@@ -198,7 +204,13 @@ fn are_alike(left: Option<LeafView>, right: Option<LeafView>) -> bool
 /// Goes past a cut, from behind its tag. The box stays as it is.
 #[cycle(trees)]
 #[tactic(auto, unfolding(hb_page_codec::specs::ReadingPages::cut_at))]
-fn past_cut<'a>(k: Attributes, level: u8, bounds: &mut Bounds, passed: &mut Passed<'a>, bytes: &'a [u8]) -> bool
+fn past_cut<'a>(
+    k: Attributes,
+    level: u8,
+    bounds: &mut Bounds,
+    passed: &mut Passed<'a>,
+    bytes: &'a [u8],
+) -> bool
     requires same { length bounds.old.lo ≡ k.number }
     requires few { passed.old.weight + length bytes.now ≤ PAGE }
     ensures passes { GoesPastTree level bounds.old passed.old.weight (cut_at (tree_at k.number) k.number bytes.now) passed.new result }
@@ -220,15 +232,14 @@ fn past_cut<'a>(k: Attributes, level: u8, bounds: &mut Bounds, passed: &mut Pass
     if !below {
         return false;
     }
-    let right = passed.rest;
-    let leaf = passed.leaf;
+    let first = *passed;
     let least = bounds.take_from(axis, value);
-    let from = past_tree(k, level, bounds, passed, right);
+    let from = past_tree(k, level, bounds, passed, first.rest);
     bounds.put_lo(axis, least);
     if !from {
         return false;
     }
-    let alike = are_alike(leaf, passed.leaf);
+    let alike = are_alike(first.leaf, passed.leaf);
     passed.leaf = None;
     !alike
 }
@@ -236,7 +247,13 @@ fn past_cut<'a>(k: Attributes, level: u8, bounds: &mut Bounds, passed: &mut Pass
 /// Goes past a tree by its root. The box stays as it is.
 #[cycle(trees)]
 #[tactic(auto, unfolding(hb_page_codec::specs::ReadingPages::node_at))]
-fn past_root<'a>(k: Attributes, level: u8, bounds: &mut Bounds, passed: &mut Passed<'a>, bytes: &'a [u8]) -> bool
+fn past_root<'a>(
+    k: Attributes,
+    level: u8,
+    bounds: &mut Bounds,
+    passed: &mut Passed<'a>,
+    bytes: &'a [u8],
+) -> bool
     requires same { length bounds.old.lo ≡ k.number }
     requires few { passed.old.weight + length bytes.now ≤ PAGE }
     ensures passes { GoesPastTree level bounds.old passed.old.weight (node_at (tree_at k.number) k.number bytes.now) passed.new result }
@@ -254,7 +271,13 @@ fn past_root<'a>(k: Attributes, level: u8, bounds: &mut Bounds, passed: &mut Pas
 
 /// Goes past a tree of this level with this box that keeps the rules, and adds what it weighs. The box stays as it is.
 #[cycle(trees)]
-fn past_tree<'a>(k: Attributes, level: u8, bounds: &mut Bounds, passed: &mut Passed<'a>, bytes: &'a [u8]) -> bool
+fn past_tree<'a>(
+    k: Attributes,
+    level: u8,
+    bounds: &mut Bounds,
+    passed: &mut Passed<'a>,
+    bytes: &'a [u8],
+) -> bool
     requires same { length bounds.old.lo ≡ k.number }
     requires few { passed.old.weight + length bytes.now ≤ PAGE }
     ensures passes { GoesPastTree level bounds.old passed.old.weight (tree_at k.number bytes.now) passed.new result }

@@ -1,4 +1,4 @@
-use Rattle.std.proofs.Common.{◌≡◌, length, ap, refl, sym, subst, ◌∙◌, arith}
+use Rattle.std.proofs.Common.{length, ap, refl, sym, subst, ◌∙◌, arith}
 use Rattle.std.proofs.lemmas.Grind.{common_steps}
 use Rattle.hb_space.specs.Boxes.{Area, side_from}
 use Rattle.hb_page_codec.specs.Reading.{number_at}
@@ -14,8 +14,7 @@ pub past_cut-past_tree-below-requires : goal.past_cut-past_tree-below-requires
 past_cut-past_tree-below-requires t c =
     let k = c.args.k.number in
     let la = left_by (axis_at k c.args.bytes.now) _ (c.in-Some.axis, c.in-Some.rest.now) (axis_shortens k c.args.bytes.now) c.in-Some.ensures in
-    let lv = left_by (number_at 8 c.in-Some.rest.now) _ (c.in-Some-u64_of.value, c.in-Some-u64_of.left.now) (number_shortens 8 c.in-Some.rest.now) c.in-Some-u64_of.ensures in
-    (
+    let lv = left_by (number_at 8 c.in-Some.rest.now) _ (c.in-Some-u64_of.value, c.in-Some-u64_of.left.now) (number_shortens 8 c.in-Some.rest.now) c.in-Some-u64_of.ensures in (
       omega (arith, la, lv, c.decreases),
       (ap (λ (a : Area). length a.lo) c.take_below-greatest.ensures.side ∙ c.requires.same, omega (arith, la, lv, c.requires.few)),
     )

@@ -1,6 +1,5 @@
-use Rattle.std.proofs.Common.{◌≡◌, ℕ, List, length, get_or, ap, sym, refl, ◌∙◌, arith}
+use Rattle.std.proofs.Common.{◌≡◌, ℕ, List, length, get_or, ap, sym, ◌∙◌, arith}
 use Rattle.std.specs.Ordering.{nat_cmp, is_lt}
-use Rattle.std.specs.declared.cmp.Ordering.{Ordering}
 use Rattle.hb_view.specs.Corners.{point_there}
 use Rattle.hb_view.proofs.Cornered.{point_count}
 use Rattle.hb_view.proofs.Followed.{all_compared, box_holds, is_less, one_between, one_compared}
@@ -15,7 +14,7 @@ loop-axis-preserved c =
     record {
       between = one_between c.corners.result.0.now c.corners.result.1.now (point_there k key) c.loop-axis.axis c.value_at-value.result c.loop-axis.invariant.between c.value_at-value.ensures (c.lies_between.ensures.0 c.if-not-lies_between.false).0 (c.lies_between.ensures.0 c.if-not-lies_between.false).1;
       so_far = one_compared (point_there k last) (point_there k key) c.loop-axis.axis c.loop-axis.order _ c.compared_at-order.result (omega (arith, c.loop-axis-test.true, same, point_count k last c.requires.last)) (omega (arith, c.loop-axis-test.true, same, point_count k key c.requires.room))
-      c.loop-axis.invariant.so_far (ap (λ (n : ℕ). nat_cmp (get_or (point_there k last) c.loop-axis.axis 0) n) c.value_at-value.ensures) c.compared_at-order.ensures;
+          c.loop-axis.invariant.so_far (ap (λ (n : ℕ). nat_cmp (get_or (point_there k last) c.loop-axis.axis 0) n) c.value_at-value.ensures) c.compared_at-order.ensures;
     }
 
 pub returns : goal.returns

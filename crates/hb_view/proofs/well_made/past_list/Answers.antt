@@ -1,6 +1,6 @@
 use Rattle.std.proofs.Common.{List, length, ap, refl, arith}
 use Rattle.std.proofs.lemmas.List.{length-drop}
-use Rattle.hb_view.proofs.PassedOver.{list_falls, list_passed}
+use Rattle.hb_view.proofs.ListsPassed.{list_falls, list_passed}
 use Rattle.hb_view.proofs.Rooted.{count_behind}
 use Rattle.hb_view.proofs.well_made.past_list.Goals as goal
 

@@ -1,4 +1,4 @@
-use Rattle.std.proofs.Common.{ℕ, ap, length, List, refl, sym, ◌≡◌, ◌∙◌, arith}
+use Rattle.std.proofs.Common.{ℕ, ap, length, List, sym, ◌∙◌, arith}
 use Rattle.std.proofs.lemmas.Bool.{false≢true}
 use Rattle.hb_page_codec.specs.ReadingPages.{tree_at}
 use Rattle.hb_page_codec.proofs.Facts.PageLaws.{head_takes}

@@ -1,8 +1,8 @@
-use Rattle.std.proofs.Common.{false, ◌≡◌, ◌∙◌, sym, arith, option_map}
+use Rattle.std.proofs.Common.{◌∙◌, sym, arith, option_map}
 use Rattle.std.proofs.lemmas.Bool.{false≢true}
 use Rattle.hb_space.specs.declared.records.Record.{Record}
 use Rattle.hb_view.specs.Corners.{point_there}
-use Rattle.hb_view.proofs.PassedOver.{all_past, none_read, one_past, one_stops, record_shorter}
+use Rattle.hb_view.proofs.ListsPassed.{all_past, none_read, one_past, one_stops, record_shorter}
 use Rattle.hb_view.proofs.well_made.past_records.Goals as goal
 
 pub returns-in_err-key-clause-passes : goal.returns-in_err-key-clause-passes

@@ -1,6 +1,6 @@
 use Rattle.std.proofs.Common.{◌+◌, ◌-◌, ◌*◌, ◌≤◌, length, IfSome, option_map}
 use Rattle.hb_view.specs.Corners.{point_there}
-use Rattle.hb_view.proofs.PassedOver.{LeftOf}
+use Rattle.hb_view.proofs.ListsPassed.{LeftOf}
 use Rattle.hb_view.proofs.well_made.past_records.Given as goal
 
 -- who goes past the records that are left goes past all

@@ -1,6 +1,5 @@
-use Rattle.std.proofs.Common.{◌≡◌, List, length, ap, subst, sym, ◌∙◌, arith, Some, cond}
-use Rattle.hb_space.specs.Boxes.{Area, IsArea}
-use Rattle.hb_page_codec.specs.ReadingFields.{area_at}
+use Rattle.std.proofs.Common.{List, length, ap, ◌∙◌, arith}
+use Rattle.hb_space.specs.Boxes.{Area}
 use Rattle.hb_page_codec.proofs.Facts.Fields.{area_takes}
 use Rattle.hb_view.specs.Corners.{point_there}
 use Rattle.hb_view.proofs.Cornered.{box_read, point_count, point_shorter}
