@@ -16,3 +16,6 @@ pub mod PlacedAmong
 pub mod Spotted
 pub mod Replaced
 pub mod TakenWithin
+pub mod ListsPassed
+pub mod PassedOver
+pub mod Followed

@@ -11,3 +11,4 @@ pub mod Seen
 pub mod Splicing
 pub mod Spots
 pub mod Within
+pub mod WellMade

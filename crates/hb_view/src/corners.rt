@@ -77,7 +77,7 @@ pub(crate) fn compare(k: Attributes, bytes: &[u8], p: &[u64]) -> Ordering
 }
 
 /// Whether no value of the first of two points exceeds the second one's in the same attribute.
-fn is_ordered(k: Attributes, lo: &[u8], hi: &[u8]) -> bool
+pub(crate) fn is_ordered(k: Attributes, lo: &[u8], hi: &[u8]) -> bool
     requires lo { 8 * k.number ≤ length lo.now }
     requires hi { 8 * k.number ≤ length hi.now }
     ensures { result ≡ are_ordered (point_there k.number lo.now) (point_there k.number hi.now) }

@@ -12,6 +12,7 @@ ghost use Rattle.hb_frag.specs.declared.pages.Page.TheVariants.{Free as FreePage
 ghost use Rattle.hb_view.specs.Naming.{CountsLeaf, first_child_box};
 ghost use Rattle.hb_view.specs.Views.{IsLive, IsLiveAnd, HasInside, ShowsLeaf, TellsBody};
 ghost use Rattle.hb_view.specs.Within.{TakesFound};
+ghost use Rattle.hb_view.specs.WellMade.{SpellWellMade};
 
 use crate::LeafView;
 use crate::boxes::leaf_in;
@@ -22,6 +23,7 @@ use crate::heads::{are_live, box_of, inside_of, level_of, next_of, page_of};
 use crate::naming::{leaf_of_place, named_in};
 use crate::trees::Inside;
 use crate::walking::{count_in, find_in, weigh};
+use crate::well_made::is_well_made;
 use hb_frag::Page;
 use hb_space::form::BMAX;
 use hb_space::{Area, NoMemory, Point, Record};
@@ -223,5 +225,19 @@ impl<'a> PageView<'a> {
             icap,
         };
         first_broken(&self.inside(), self.level(), limits)
+    }
+
+    /// Whether the bytes spell a page that keeps the rules that speak of it alone, in such a file: one that is free, or of which
+    /// `broken` is `None`. Any bytes may be given. It reads over them once; what is wrong `checked` and `broken` tell.
+    pub fn well_made(bytes: &[u8], k: u8, height: u8, dcap: u16, icap: u16) -> bool
+        ensures { IsTrue result ↔ SpellWellMade (meta_with k height dcap icap) bytes.now }
+    {
+        let limits = Limits {
+            k,
+            height,
+            dcap,
+            icap,
+        };
+        is_well_made(bytes, limits)
     }
 }
