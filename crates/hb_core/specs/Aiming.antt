@@ -3,7 +3,8 @@ use Rattle.std.specs.Prelude.{◌≡◌, ℕ, length, Option, IfSome}
 use Rattle.hb_activity.specs.declared.activities.Activity.{Activity}
 use Rattle.hb_activity.specs.Wanting.{may_commit}
 use Rattle.hb_store.specs.States.{StoreState}
-use Rattle.hb_steps.specs.Asking.{AskedBox, asked_box, looked_live}
+use Rattle.hb_steps.specs.declared.asked_boxes.AskedBox.{AskedBox}
+use Rattle.hb_steps.specs.Asking.{asked_box, looked_live}
 use Rattle.hb_steps.specs.Looking.{wanted_in}
 use Rattle.hb_core.specs.declared.aiming.Aim.{Aim}
 use Rattle.hb_core.specs.CoreUpdates.{StandsAs}

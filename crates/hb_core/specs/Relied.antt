@@ -8,7 +8,8 @@ use Rattle.hb_activity.specs.declared.activities.Activity.{Activity}
 use Rattle.hb_activity.specs.declared.activities.Activity.TheVariants as at
 use Rattle.hb_activity.specs.declared.wanting.Wanted.{Wanted}
 use Rattle.hb_store.specs.States.{StoreState, in_memory}
-use Rattle.hb_steps.specs.Asking.{AskedBox, asked_box, wanted_by}
+use Rattle.hb_steps.specs.declared.asked_boxes.AskedBox.{AskedBox}
+use Rattle.hb_steps.specs.Asking.{asked_box, wanted_by}
 use Rattle.hb_core.specs.declared.aiming.Aim.{Aim}
 use Rattle.hb_core.specs.Aiming.{HasMany}
 use Rattle.hb_core.specs.CoreUpdates.{StandsAs}

@@ -10,9 +10,13 @@ use Rattle.hb_core.specs.Moving.{with_order_of_use, with_store}
 use Rattle.hb_core.specs.CoreSeen.{core_seen}
 use Rattle.hb_core.specs.Working.{Halts}
 use Rattle.hb_core.specs.declared.halts.Halt.{Halt}
-use Rattle.hb_core.proofs.Running.Coming.{asks_then, failed_test, looks_kept, many_then, may_be_pinned, may_let_go, not_crowded, passed, refused}
+use Rattle.hb_core.proofs.Running.Coming.{asks_then, failed_test, looks_kept, many_then, may_be_pinned, may_let_go, none_comes, not_crowded, passed, refused}
 use Rattle.hb_core.proofs.state.Core.bring.Goals as goal
 use Rattle.hb_lemmas.proofs.Options.{has_value, none_unless}
+
+pub returns-in_default-clause-comes : goal.returns-in_default-clause-comes
+returns-in_default-clause-comes g c m may work =
+    none_comes m (g.D.Device.model c.args.self.now.store.disk) (core_seen c.args.self.now) c.args.actor c.requires.actor may work (sym c.in_default.is ∙ c.requires.wanted m may)
 
 pub pin-requires : goal.pin-requires
 pin-requires g c =
