@@ -1,5 +1,5 @@
 //! What a step asks the deciders. A page is decoded where its decider reads more of it than its bytes tell, which takes memory.
-ghost use Rattle.std.specs.Prelude.{◌≡◌, ◌↔◌, ℕ, Some, None, IsTrue, IsSome, IfOk, IfErr, IfSome, OnErr, length};
+ghost use Rattle.std.specs.Prelude.{◌≡◌, ◌↔◌, ℕ, Option, Some, None, IsTrue, IsSome, IfOk, IfSome, OnErr, length};
 ghost use Rattle.hb_activity.specs.Deciding.{deed_of};
 ghost use Rattle.hb_activity.specs.Classes.{idle_of};
 ghost use Rattle.hb_activity.specs.Walks.{IsSessionWalk, walk_point};
@@ -110,7 +110,7 @@ impl<D: Device> Core<D> {
         }
     }
 
-    /// What a search comes to. Its page is decoded only at a leaf of records.
+    /// What a search comes to at its page, which is read where it lies.
     fn ask_searcher(&self, state: Activity, wanted: Option<Wanted>) -> Result<Next, NoMemory>
         requires { AsksSearcher (core_seen self.now).store state (number_of_row state wanted) }
         ensures row { IfOk result (λ next. (place : ℕ) →
@@ -118,34 +118,10 @@ impl<D: Device> Core<D> {
         ensures memory { OnErr result (GathersAt (core_seen self.now).store state (number_of_row state wanted)) }
     {
         let id = page_of(&state, wanted);
-        match self.search_passes(state, id) {
-            Ok(next) => Ok(next),
-            Err(state) => self.gather(state, id),
-        }
-    }
-
-    /// A search passes on to the page that the leaf at its point names; or it comes back.
-    fn search_passes(&self, state: Activity, id: u32) -> Result<Next, Activity>
-        requires { AsksSearcher (core_seen self.now).store state id }
-        ensures passes { IfOk result (λ next. (place : ℕ) → HasSearchRow (core_seen self.now).store state id place (placed place (deed_of state next))) }
-        ensures same { IfErr result (λ left. left ≡ state) }
-        ensures records { OnErr result (GathersAt (core_seen self.now).store state id) }
-    {
         match self.live(id) {
-            Some(view) => state.pass_on(id, &view),
+            Some(view) => hb_search::descend(self.alloc, state, id, view),
             None => unreachable!(),
         }
-    }
-
-    /// What the decider of searches says of this activity.
-    fn gather(&self, state: Activity, id: u32) -> Result<Next, NoMemory>
-        requires { AsksSearcher (core_seen self.now).store state id }
-        ensures { IfOk result (λ next. (place : ℕ) → HasSearchRow (core_seen self.now).store state id place (placed place (deed_of state next))) }
-    {
-        let page = self.decoded(id)?;
-        let meta = self.store.meta();
-        let page = &page;
-        hb_search::next(self.alloc, state, Latched { id, page, meta })
     }
 
     /// What a step of a session comes to that doesn't search.

@@ -1,4 +1,4 @@
--- Which steps decode pages.
+-- Which steps decode pages, or copy records.
 use Rattle.std.specs.Prelude.{◌<◌, Option, Some, None}
 use Rattle.hb_frag.specs.declared.pages.LivePage.{LivePage}
 use Rattle.hb_activity.specs.declared.activities.Activity.{Activity}
@@ -9,8 +9,8 @@ use Rattle.hb_steps.specs.Rows.{IsAtHand}
 use Rattle.hb_point.specs.SessionRows.{WantsBoxes}
 use Rattle.hb_search.specs.Searching.{GathersNow}
 
--- A step decodes pages, which takes memory: a search at a leaf of records, a split where a page is free, and what the workers do. A walk
--- of an insert, a delete or a lookup reads its pages where they lie, and so does a put into one of the halves.
+-- A search at a leaf of records copies those that it finds, and a step decodes pages where a split has a page free, and in what the
+-- workers do: that takes memory. A walk of a session reads its pages where they lie, and so does a put into one of the halves.
 abbrev pub GathersThere : Option Wanted → Machine → Activity → Type 0
 GathersThere None m activity = ⊥
 GathersThere (Some wanted) m activity = (page : LivePage) × IsAtHand m activity wanted page × GathersNow activity page
