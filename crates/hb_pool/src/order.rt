@@ -9,7 +9,7 @@ ghost use Rattle.std.specs.List.{position_or_len};
 ghost use Rattle.std.specs.Option.{option_map, option_to_list};
 ghost use Rattle.std.specs.Set.{remove_key};
 ghost use Rattle.hb_pool.specs.Slots.{entry_of, is_page};
-ghost use Rattle.indexmap.specs.IndexMap.{get, index_map_len, spare};
+ghost use Rattle.indexmap.specs.IndexMap.{get, index_map_len, move_index, spare};
 
 use crate::pools::FRAMES;
 use hb_space::NoMemory;
@@ -141,8 +141,10 @@ impl Order {
     {
         let last = self.pages.len() - 1;
         let from = self.gone + place;
-        if from < last {
+        if from + LATE < last {
             self.pages.move_index(from, last);
+        } else {
+            climb(&mut self.pages, from, last);
         }
     }
 
@@ -186,6 +188,20 @@ fn late(ids: &[u32], id: u32) -> Option<usize>
         }
     }
     None
+}
+
+// The page at this place stands last now. It changes places with one after the other, which is cheaper where few
+// stand behind it.
+fn climb(pages: &mut IndexMap<u32, u8>, place: usize, last: usize)
+    requires within { place ≤ last }
+    requires last { last + 1 ≡ index_map_len pages.old }
+    ensures entries { pages.new.entries ≡ move_index pages.old.entries place last }
+    ensures len { index_map_len pages.new ≡ index_map_len pages.old }
+    ensures room { spare pages.old ≤ spare pages.new }
+{
+    for at in place..last {
+        pages.swap_indices(at, at + 1);
+    }
 }
 
 // A page that went stands last again, with another slot.

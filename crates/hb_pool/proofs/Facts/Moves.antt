@@ -1,9 +1,12 @@
 -- A list of which some items in front are gone: what stands behind them, once one of them was moved.
-use Rattle.std.proofs.Common.{◌≡◌, ℕ, suc, ◌+◌, ◌-◌, ◌<◌, ◌≤◌, List, [], ◌∷◌, ◌++◌, length, take, drop, insert, remove, slice_get, Some, sym, ap, ◌∙◌, arith}
+use Rattle.std.proofs.Common.{◌≡◌, ℕ, suc, ◌+◌, ◌-◌, ◌<◌, ◌≤◌, List, [], ◌∷◌, ◌++◌, length, take, drop, get_or, insert, remove, slice_get, Some, sym, ap, ◌∙◌, arith}
 use Rattle.std.specs.Option.{option_map_or}
 use Rattle.std.proofs.Math.Seq.{take-length, drop-length, drop-append-add}
-use Rattle.std.proofs.lemmas.List.{append-nil, drop_all, drop-append-le, drop-drop, drop-take, get_or-drop, length-drop, length-take-le, take_all, take_more}
-use Rattle.std.proofs.lemmas.List.Edits.{length-remove}
+use Rattle.std.proofs.lemmas.List.{drop-append-le, drop-drop, drop-take, get_or-drop, length-drop, length-take-le, take_more}
+use Rattle.std.specs.List.{swap}
+use Rattle.std.proofs.Math.ListN.{set}
+use Rattle.std.proofs.lemmas.List.{append_assoc, drop_at, drop_more, get_or_at, length-append, set-get_or, set_at, set_split, take_at}
+use Rattle.std.proofs.lemmas.List.Edits.{length-remove, swap_is}
 use Rattle.std.proofs.lemmas.Option.{get_or_from_slice_get, slice_get-get_or, slice_get_within}
 use Rattle.indexmap.specs.IndexMap.{move_index}
 
@@ -52,16 +55,6 @@ module _ {X : Type 0} where
       ∙ drop-append-le g (remove xs (g + i)) (x ∷ []) (omega (arith, long, within))
       ∙ ap (λ ys. ys ++ x ∷ []) (removed_behind g i xs (omega (arith, within)))
 
-  -- where it is last already
-  pub last_stays : (xs : List X) (i : ℕ) (x : X) → slice_get xs i ≡ Some x → length xs ≤ i + 1 → xs ≡ remove xs i ++ x ∷ []
-  last_stays xs i x at le =
-      let within = slice_get_within xs i x at in
-      sym (take_all (i + 1) xs le)
-      ∙ take_more xs i x within
-      ∙ ap (λ y. take i xs ++ y ∷ []) (get_or_from_slice_get xs i x x at)
-      ∙ ap (λ ys. ys ++ x ∷ []) (sym (append-nil (take i xs)))
-      ∙ ap (λ ys. (take i xs ++ ys) ++ x ∷ []) (sym (drop_all (suc i) xs (omega (arith, le))))
-
   -- it goes to the front
   pub gone_behind : (g i : ℕ) (xs : List X) (x : X) → slice_get (drop g xs) i ≡ Some x → drop (g + 1) (move_index xs (g + i) g) ≡ remove (drop g xs) i
   gone_behind g i xs x at =
@@ -82,3 +75,42 @@ module _ {X : Type 0} where
       ap (drop (g - 1)) is
       ∙ drop-append-le (g - 1) (remove xs k) (x ∷ []) (omega (arith, long, le))
       ∙ ap (λ ys. ys ++ x ∷ []) (removed_in_front g k xs lt (omega (arith, lt, le)))
+
+module _ {X : Type 0} where
+  -- two neighbours change places
+  swap_pair : (p : List X) (x y : X) (q : List X) (n : ℕ) → length p ≡ n → swap (p ++ x ∷ y ∷ q) n (n + 1) ≡ p ++ y ∷ x ∷ q
+  swap_pair p x y q n long =
+      let zs : List X = p ++ x ∷ y ∷ q in
+      let all : length zs ≡ length p + length (x ∷ y ∷ q) = length-append p (x ∷ y ∷ q) in
+      let more : (z : X) → length (p ++ z ∷ []) ≡ n + 1 = λ z. (let e = length-append p (z ∷ []) in omega (arith, e, long)) in
+      let first : get_or zs n x ≡ x = get_or_at p x (y ∷ q) x n long in
+      let second : get_or zs (n + 1) x ≡ y = ap (λ l. get_or l (n + 1) x) (sym (append_assoc p (x ∷ []) (y ∷ q))) ∙ get_or_at (p ++ x ∷ []) y q x (n + 1) (more x) in
+      sym (swap_is zs n (n + 1) x (omega (arith, all, long)) (omega (arith, all, long)))
+      ∙ (λ j. set (set zs n (second j)) (n + 1) (first j))
+      ∙ ap (λ l. set l (n + 1) x) (set_at p x (y ∷ q) y n long ∙ sym (append_assoc p (y ∷ []) (y ∷ q)))
+      ∙ set_at (p ++ y ∷ []) y q x (n + 1) (more y)
+      ∙ append_assoc p (y ∷ []) (x ∷ q)
+
+  -- so an item goes one place further
+  pub one_further : (xs : List X) (a k : ℕ) (x : X) → slice_get xs a ≡ Some x → k + 1 < length xs → swap (move_index xs a k) k (k + 1) ≡ move_index xs a (k + 1)
+  one_further xs a k x at lt =
+      let ys = remove xs a in
+      let long = length-remove xs a (slice_get_within xs a x at) in
+      let within : k < length ys = omega (arith, long, lt) in
+      let y = get_or ys k x in
+      let q = drop (k + 1) ys in
+      ap (λ l. swap l k (k + 1)) (moved xs a k x at ∙ ap (λ l. take k ys ++ x ∷ l) (drop_more ys k x within))
+      ∙ swap_pair (take k ys) x y q k (length-take-le k ys (omega (arith, within)))
+      ∙ sym (append_assoc (take k ys) (y ∷ []) (x ∷ q))
+      ∙ ap (λ l. l ++ x ∷ q) (sym (take_more ys k x within))
+      ∙ sym (moved xs a (k + 1) x at)
+
+  pub moves_nowhere : (xs : List X) (a : ℕ) (x : X) → slice_get xs a ≡ Some x → move_index xs a a ≡ xs
+  moves_nowhere xs a x at =
+      let within = slice_get_within xs a x at in
+      let long = length-take-le a xs (omega (arith, within)) in
+      moved xs a a x at
+      ∙ (λ j. take_at (take a xs) (drop (suc a) xs) a long j ++ x ∷ drop_at (take a xs) (drop (suc a) xs) a long j)
+      ∙ sym (set_split xs a x within)
+      ∙ ap (set xs a) (sym (get_or_from_slice_get xs a x x at))
+      ∙ set-get_or xs a x

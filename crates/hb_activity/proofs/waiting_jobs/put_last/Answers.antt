@@ -1,4 +1,4 @@
-use Rattle.std.proofs.Common.{◌≡◌, ◌-◌, List, drop, ap, subst, ◌∙◌, arith, Contains}
+use Rattle.std.proofs.Common.{◌-◌, List, subst, ◌∙◌, arith, Contains}
 use Rattle.hb_pool.proofs.Facts.Moves.{back_behind, put_last_there}
 use Rattle.hb_activity.specs.declared.jobs.Job.{Job}
 use Rattle.hb_activity.specs.contracts.jobs.JobPartialEq.TheImpl.{eq-value}

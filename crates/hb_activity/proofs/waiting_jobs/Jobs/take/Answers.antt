@@ -1,9 +1,6 @@
-use Rattle.std.proofs.Common.{◌≡◌, ◌+◌, ◌<◌, ℕ, List, Some, length, drop, get_or, position, remove, slice_get, sym, ap, subst, ◌∙◌, arith}
+use Rattle.std.proofs.Common.{◌<◌, length, position, sym, ap, subst, ◌∙◌, arith}
 use Rattle.std.proofs.lemmas.List.{length-drop}
 use Rattle.std.proofs.lemmas.List.Quantifiers.{position-Some}
-use Rattle.std.proofs.lemmas.Option.{slice_get-get_or}
-use Rattle.hb_pool.proofs.Facts.Moves.{gone_behind}
-use Rattle.hb_activity.specs.declared.jobs.Job.{Job}
 use Rattle.hb_activity.specs.Queue.{AreQueued, is_of}
 use Rattle.hb_activity.proofs.Facts.QueueParts.{none_of, some_of, leaves_first}
 use Rattle.hb_activity.proofs.Facts.TakenJobs.{left_behind, queued_without, read_copied}
