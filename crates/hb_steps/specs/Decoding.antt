@@ -9,8 +9,9 @@ use Rattle.hb_steps.specs.Rows.{IsAtHand}
 use Rattle.hb_point.specs.SessionRows.{WantsBoxes}
 use Rattle.hb_search.specs.Searching.{GathersNow}
 
--- A step decodes pages, which takes memory: a search at a leaf of records, a split where a page is free, and what the workers do. A walk
--- of an insert, a delete or a lookup reads its pages where they lie, and so does a put into one of the halves.
+-- A step decodes pages, which takes memory: a search at a leaf of records, a split where a page is free, and a worker's that looks at a
+-- child, scans one, tries or decides a pair, or may grow the file. A walk reads its pages where they lie, and so does a put into one of
+-- the halves, a promotion, and the step that takes the page to keep.
 abbrev pub GathersThere : Option Wanted → Machine → Activity → Type 0
 GathersThere None m activity = ⊥
 GathersThere (Some wanted) m activity = (page : LivePage) × IsAtHand m activity wanted page × GathersNow activity page
@@ -24,4 +25,9 @@ Decodes wanted m (at.SessionAwait number reply place) = ⊥
 Decodes wanted m at.PosterIdle = ⊥
 Decodes wanted m at.ConsolidatorIdle = ⊥
 Decodes wanted m at.Flusher = ⊥
+Decodes wanted m (at.PosterWalk job held) = ⊥
+Decodes wanted m (at.PosterPromote job parent) = ⊥
+Decodes wanted m (at.ConsolidatorWalk job held) = ⊥
+Decodes wanted m (at.ConsolidatorPromote job parent keep gone) = ⊥
+Decodes wanted m (at.ConsolidatorKeep job parent keep gone) = ⊥
 Decodes wanted m worker = Unit {0}
