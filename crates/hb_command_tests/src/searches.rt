@@ -1,24 +1,29 @@
 //! Searches by hand, over a page with two holes and the two pages that have those: which records are found, and by how
-//! many steps at a page.
+//! many steps at a page. Pages are given as such, and as their bytes: both come to the same.
 
 ghost use Rattle.std.specs.Prelude.{IsTrue, IfSome};
-ghost use Rattle.hb_search.specs.Searching.{MaySearch, StaysGathering};
+ghost use Rattle.hb_layout.specs.Limits.{IsLayout};
+ghost use Rattle.hb_ops.specs.Sound.{FitsFile};
+ghost use Rattle.hb_search.specs.Searching.{MaySearch, MaySearchIn, StaysGathering};
+ghost use Rattle.hb_view.specs.Views.{IsLiveAnd};
 
 use crate::deciders::{fits, is_inside};
 use crate::rows::expect;
-use hb_activity::{Activity, Latched};
+use crate::spelled::{bytes_of, fits_file, has_point};
+use hb_activity::{Activity, Latched, Next};
 use hb_frag::{Frag, Leaf, LivePage};
 use hb_ops::Meta;
 use hb_set::{Command, Line, Reply};
 use hb_space::{Area, Areas, Body, Point, Record, Records};
+use hb_view::PageView;
 use std::alloc::Global;
 
 // The greatest value.
 const M: u64 = u64::MAX;
 
 // The records of page 1, whose leaf has what is below 50 in the first attribute and below 31 in the last one; those of page 7,
-// which has what is from 50 on in the first attribute; and those of page 8, which has the rest. Each is written as its first
-// value and each further one.
+// which has what is from 50 on in the first attribute; and those of page 8, which has the rest. With four attributes page 8 has no
+// records. Each is written as its first value and each further one.
 const CORNER: [(u64, u64); 4] = [(5, 5), (25, 12), (30, 9), (40, 20)];
 
 const BEHIND: [(u64, u64); 4] = [(50, 0), (60, 11), (65, 85), (M, M)];
@@ -32,7 +37,7 @@ const ABOVE_OF_ONE: [(u64, u64); 2] = [(31, 0), (49, 0)];
 
 /// The number of attributes, the least and the greatest values of a box, and what comes: the steps, and the records in their
 /// order. `M` is the greatest value.
-const ROWS: [(u8, [u64; 4], [u64; 4], &str); 13] = [
+const ROWS: [(u8, [u64; 4], [u64; 4], &str); 17] = [
     // one point, which is there or isn't
     (1, [25, 0, 0, 0], [25, 0, 0, 0], "1: 25"),
     (1, [26, 0, 0, 0], [26, 0, 0, 0], "1:"),
@@ -76,7 +81,19 @@ const ROWS: [(u8, [u64; 4], [u64; 4], &str); 13] = [
         [M, 20, 20, M],
         "5: 40.20.20.20 50.0.0.0 60.11.11.11",
     ),
+    // a box whose greatest values one record has
+    (1, [26, 0, 0, 0], [30, 0, 0, 0], "1: 30"),
+    (2, [31, 0, 0, 0], [40, 20, 0, 0], "1: 40.20"),
+    (3, [31, 0, 0, 0], [40, 20, 20, 0], "1: 40.20.20"),
+    (4, [31, 0, 0, 0], [40, 20, 20, 20], "1: 40.20.20.20"),
 ];
+
+// How a step is given its page.
+#[derive(Clone, Copy)]
+enum Given {
+    Page,
+    Bytes,
+}
 
 // A file of three pages of records, of which each may weigh 6.
 fn meta(k: u8) -> Meta {
@@ -150,7 +167,11 @@ fn behind(alloc: Global, k: u8) -> Option<LivePage> {
 
 // Page 8.
 fn above(alloc: Global, k: u8) -> Option<LivePage> {
-    let values: &[(u64, u64)] = if k == 1 { &ABOVE_OF_ONE } else { &ABOVE };
+    let values: &[(u64, u64)] = match k {
+        1 => &ABOVE_OF_ONE,
+        4 => &[],
+        _ => &ABOVE,
+    };
     let least = match k {
         1 => [31, 0, 0, 0],
         2 => [0, 31, 0, 0],
@@ -192,34 +213,78 @@ fn may_ask(state: &Activity, page: &LivePage) -> bool
 }
 
 // What the step at the page comes to.
-fn step(alloc: Global, state: Activity, id: u32, page: &LivePage, meta: &Meta) -> Option<Activity>
+fn next_at(alloc: Global, state: Activity, id: u32, page: &LivePage, meta: &Meta) -> Option<Next>
     requires { StaysGathering state }
-    ensures { IfSome result StaysGathering }
+    ensures { IfSome result (λ next. StaysGathering next.then) }
 {
     if !meta.is_layout() || !fits(page, meta) || !may_ask(&state, page) {
         return None;
     }
-    match hb_search::next(alloc, state, Latched { id, page, meta }) {
-        Ok(next) => Some(next.then),
-        Err(_) => None,
+    hb_search::next(alloc, state, Latched { id, page, meta }).ok()
+}
+
+// Whether the page in use has the corner of the last box that remains.
+fn may_ask_in(state: &Activity, view: &PageView<'_>, meta: &Meta) -> bool
+    requires gathering { StaysGathering state.now }
+    requires layout { IsLayout meta.now }
+    requires fits { IsLiveAnd view.now (FitsFile meta.now) }
+    ensures { IsTrue result → IsLiveAnd view.now (MaySearchIn state.now) }
+{
+    let Activity::SessionWalk { line, rest, .. } = state else {
+        return false;
+    };
+    match (&line.command, rest.as_slice().last()) {
+        (Command::Search(_), Some(area)) => has_point(view, area.lo()),
+        _ => false,
     }
 }
 
+// The same where the page is read from its bytes.
+fn next_in(alloc: Global, state: Activity, id: u32, page: &LivePage, meta: &Meta) -> Option<Next>
+    requires { StaysGathering state }
+    ensures { IfSome result (λ next. StaysGathering next.then) }
+{
+    let bytes = bytes_of(alloc, page)?;
+    let view = PageView::checked(&bytes)?;
+    if !meta.is_layout() || !fits_file(&view, meta) || !may_ask_in(&state, &view, meta) {
+        return None;
+    }
+    hb_search::descend(alloc, state, id, view).ok()
+}
+
+// Where the session stands behind the step.
+fn step(alloc: Global, state: Activity, given: Given, meta: &Meta) -> Option<Activity>
+    requires { StaysGathering state }
+    ensures { IfSome result StaysGathering }
+{
+    let (id, page) = next_page(alloc, meta.k, &state)?;
+    let next = match given {
+        Given::Page => next_at(alloc, state, id, &page, meta)?,
+        Given::Bytes => next_in(alloc, state, id, &page, meta)?,
+    };
+    Some(next.then)
+}
+
 // What the search finds, and how many of its steps are left.
-fn found_by(alloc: Global, state: Activity, meta: &Meta, steps: u32) -> Option<(u32, Records)>
+fn found_by(
+    alloc: Global,
+    state: Activity,
+    given: Given,
+    meta: &Meta,
+    steps: u32,
+) -> Option<(u32, Records)>
     requires { StaysGathering state }
 {
     if steps == 0 {
         return None;
     }
-    let (id, page) = next_page(alloc, meta.k, &state)?;
-    let then = step(alloc, state, id, &page, meta)?;
+    let then = step(alloc, state, given, meta)?;
     match then {
         Activity::SessionAwait {
             reply: Reply::Within(records),
             ..
         } => Some((steps - 1, records)),
-        then => found_by(alloc, then, meta, steps - 1),
+        then => found_by(alloc, then, given, meta, steps - 1),
     }
 }
 
@@ -262,8 +327,8 @@ fn show_point(text: &mut String, point: &Point) -> Option<()> {
 }
 
 // How many steps the search takes, and its records.
-fn shown(alloc: Global, k: u8, asked: Area) -> Option<String> {
-    let (left, found) = found_by(alloc, begun(alloc, asked)?, &meta(k), 20)?;
+fn shown(alloc: Global, k: u8, given: Given, asked: Area) -> Option<String> {
+    let (left, found) = found_by(alloc, begun(alloc, asked)?, given, &meta(k), 20)?;
     let mut text = String::new(alloc);
     write!(text, "{}:", 20_u32.checked_sub(left)?).ok()?;
     for record in found.as_slice() {
@@ -273,11 +338,11 @@ fn shown(alloc: Global, k: u8, asked: Area) -> Option<String> {
 }
 
 // Whether the search comes to this.
-fn comes_to(alloc: Global, k: u8, asked: Option<Area>, want: &str) -> bool {
+fn comes_to(alloc: Global, k: u8, given: Given, asked: Option<Area>, want: &str) -> bool {
     let Some(asked) = asked else {
         return false;
     };
-    match shown(alloc, k, asked) {
+    match shown(alloc, k, given, asked) {
         Some(text) => text.as_str() == want,
         None => false,
     }
@@ -286,7 +351,17 @@ fn comes_to(alloc: Global, k: u8, asked: Option<Area>, want: &str) -> bool {
 #[test]
 fn searches_over_three_pages(rt: HostRuntime) {
     for (place, &(k, least, greatest, want)) in ROWS.iter().enumerate() {
-        let right = comes_to(rt.alloc(), k, area(k, least, greatest), want);
+        let asked = area(k, least, greatest);
+        let right = comes_to(rt.alloc(), k, Given::Page, asked, want);
+        expect(&rt, place, right);
+    }
+}
+
+#[test]
+fn searches_over_bytes(rt: HostRuntime) {
+    for (place, &(k, least, greatest, want)) in ROWS.iter().enumerate() {
+        let asked = area(k, least, greatest);
+        let right = comes_to(rt.alloc(), k, Given::Bytes, asked, want);
         expect(&rt, place, right);
     }
 }

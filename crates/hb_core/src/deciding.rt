@@ -1,5 +1,5 @@
 //! What a step asks the deciders. A page is decoded where its decider reads more of it than its bytes tell, which takes memory.
-ghost use Rattle.std.specs.Prelude.{◌≡◌, ◌↔◌, ℕ, Some, None, IsTrue, IsSome, IfOk, IfErr, IfSome, OnErr, length};
+ghost use Rattle.std.specs.Prelude.{◌≡◌, ◌↔◌, ℕ, Option, Some, None, IsTrue, IsSome, IfOk, IfSome, OnErr, length};
 ghost use Rattle.hb_activity.specs.Deciding.{deed_of};
 ghost use Rattle.hb_activity.specs.Classes.{idle_of};
 ghost use Rattle.hb_activity.specs.Walks.{IsSessionWalk, walk_point};
@@ -50,33 +50,11 @@ impl<D: Device> Core<D> {
         }
     }
 
-    /// Whether the row of the poster makes a page, if one is free, at the page of this number.
-    fn makes_page(&self, activity: &Activity, id: u32) -> Result<bool, NoMemory>
-        requires { AsksNumber (core_seen self.now).store activity.now id }
-        ensures { IfOk result (λ makes. IsTrue makes ↔ MakesPageAt (core_seen self.now).store activity.now id) }
-    {
-        let page = self.decoded(id)?;
-        let other = self.other(activity)?;
-        let meta = self.store.meta();
-        let above = other.as_ref();
-        Ok(hb_poster::needs_number(self.alloc, activity, &page, above, meta))
-    }
-
     /// The other page that the row reads, with memory of its own: the half that left, or the parent.
-    fn other(&self, activity: &Activity) -> Result<Option<LivePage>, NoMemory>
+    pub(crate) fn other(&self, activity: &Activity) -> Result<Option<LivePage>, NoMemory>
         ensures { IfOk result (λ page. page ≡ other_page (core_seen self.now).store activity.now) }
     {
         match other_of(activity) {
-            Some(id) => self.page_here(id),
-            None => Ok(None),
-        }
-    }
-
-    /// The page to keep, which the row of a consolidator reads besides, with memory of its own.
-    fn second(&self, activity: &Activity) -> Result<Option<LivePage>, NoMemory>
-        ensures { IfOk result (λ page. page ≡ second_page (core_seen self.now).store activity.now) }
-    {
-        match second_of(activity) {
             Some(id) => self.page_here(id),
             None => Ok(None),
         }
@@ -110,7 +88,7 @@ impl<D: Device> Core<D> {
         }
     }
 
-    /// What a search comes to. Its page is decoded only at a leaf of records.
+    /// What a search comes to at its page, which is read where it lies.
     fn ask_searcher(&self, state: Activity, wanted: Option<Wanted>) -> Result<Next, NoMemory>
         requires { AsksSearcher (core_seen self.now).store state (number_of_row state wanted) }
         ensures row { IfOk result (λ next. (place : ℕ) →
@@ -118,34 +96,10 @@ impl<D: Device> Core<D> {
         ensures memory { OnErr result (GathersAt (core_seen self.now).store state (number_of_row state wanted)) }
     {
         let id = page_of(&state, wanted);
-        match self.search_passes(state, id) {
-            Ok(next) => Ok(next),
-            Err(state) => self.gather(state, id),
-        }
-    }
-
-    /// A search passes on to the page that the leaf at its point names; or it comes back.
-    fn search_passes(&self, state: Activity, id: u32) -> Result<Next, Activity>
-        requires { AsksSearcher (core_seen self.now).store state id }
-        ensures passes { IfOk result (λ next. (place : ℕ) → HasSearchRow (core_seen self.now).store state id place (placed place (deed_of state next))) }
-        ensures same { IfErr result (λ left. left ≡ state) }
-        ensures records { OnErr result (GathersAt (core_seen self.now).store state id) }
-    {
         match self.live(id) {
-            Some(view) => state.pass_on(id, &view),
+            Some(view) => hb_search::descend(self.alloc, state, id, view),
             None => unreachable!(),
         }
-    }
-
-    /// What the decider of searches says of this activity.
-    fn gather(&self, state: Activity, id: u32) -> Result<Next, NoMemory>
-        requires { AsksSearcher (core_seen self.now).store state id }
-        ensures { IfOk result (λ next. (place : ℕ) → HasSearchRow (core_seen self.now).store state id place (placed place (deed_of state next))) }
-    {
-        let page = self.decoded(id)?;
-        let meta = self.store.meta();
-        let page = &page;
-        hb_search::next(self.alloc, state, Latched { id, page, meta })
     }
 
     /// What a step of a session comes to that doesn't search.
@@ -216,45 +170,8 @@ impl<D: Device> Core<D> {
         hb_point::next(self.alloc, state, latched, other.as_ref(), free)
     }
 
-    /// What the poster's decider says of this activity.
-    fn ask_poster(
-        &self,
-        state: Activity,
-        wanted: Option<Wanted>,
-        free: Option<(u32, u32)>,
-    ) -> Result<Next, NoMemory>
-        requires { AsksPoster (core_seen self.now).store state (number_of_row state wanted) free }
-        ensures { IfOk result (λ next. (place : ℕ) →
-            HasPosterRow (core_seen self.now).store state (number_of_row state wanted) place (placed place (deed_of state next))) }
-    {
-        let id = page_of(&state, wanted);
-        let page = self.decoded(id)?;
-        let other = self.other(&state)?;
-        let meta = self.store.meta();
-        let page = &page;
-        let latched = Latched { id, page, meta };
-        hb_poster::next(self.alloc, state, latched, other.as_ref(), free)
-    }
-
-    /// What the consolidator's decider says of this activity.
-    fn ask_merger(&self, state: Activity, wanted: Option<Wanted>) -> Result<Next, NoMemory>
-        requires { AsksMerger (core_seen self.now).store state (number_of_row state wanted) }
-        ensures { IfOk result (λ next. (place : ℕ) →
-            HasMergerRow (core_seen self.now).store state (number_of_row state wanted) place (placed place (deed_of state next))) }
-    {
-        let id = page_of(&state, wanted);
-        let page = self.decoded(id)?;
-        let other = self.other(&state)?;
-        let second = self.second(&state)?;
-        let above = other.as_ref();
-        let kept = second.as_ref();
-        let meta = self.store.meta();
-        let page = &page;
-        hb_consol::next(self.alloc, state, Latched { id, page, meta }, above, kept)
-    }
-
     /// The page of the number, which is in memory and in use, with memory of its own.
-    fn decoded(&self, id: u32) -> Result<LivePage, NoMemory>
+    pub(crate) fn decoded(&self, id: u32) -> Result<LivePage, NoMemory>
         requires { IsSome (live_here (core_seen self.now).store id) }
         ensures { IfOk result (λ page. live_here (core_seen self.now).store id ≡ Some page) }
     {
@@ -265,7 +182,7 @@ impl<D: Device> Core<D> {
     }
 
     /// The page of the number, where it is in memory and in use, with memory of its own.
-    fn page_here(&self, id: u32) -> Result<Option<LivePage>, NoMemory>
+    pub(crate) fn page_here(&self, id: u32) -> Result<Option<LivePage>, NoMemory>
         ensures { IfOk result (λ page. page ≡ live_here (core_seen self.now).store id) }
     {
         match self.store.get(id) {
@@ -343,20 +260,8 @@ fn other_of(activity: &Activity) -> Option<u32>
     }
 }
 
-/// The number of the page to keep, where a pair is tried or decided.
-fn second_of(activity: &Activity) -> Option<u32>
-    ensures { result ≡ second_number activity.now }
-{
-    match activity {
-        Activity::ConsolidatorTry { keep, .. } | Activity::ConsolidatorDecide { keep, .. } => {
-            Some(*keep)
-        }
-        _ => None,
-    }
-}
-
 /// The page that the row speaks of: the wanted one, or the one that is held.
-fn page_of(activity: &Activity, wanted: Option<Wanted>) -> u32
+pub(crate) fn page_of(activity: &Activity, wanted: Option<Wanted>) -> u32
     ensures { result ≡ number_of_row activity.now wanted }
 {
     match (activity, wanted) {

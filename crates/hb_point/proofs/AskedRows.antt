@@ -19,7 +19,7 @@ use Rattle.hb_layout.specs.declared.meta.Meta.{Meta}
 use Rattle.hb_ops.specs.Cutting.{reached}
 use Rattle.hb_ops.specs.declared.leaf_cuts.LeafCut.{LeafCut}
 use Rattle.hb_ops.specs.declared.operations.Op.TheVariants.{Extract, Put}
-use Rattle.hb_point.specs.Asks.{CanHold, InsertsInto, MayAsk, PutsInto, deed_for}
+use Rattle.hb_point.specs.Asks.{CanHold, InsertsInto, MayAsk, MayPutThere, deed_for}
 use Rattle.hb_point.specs.Doing.{InsertsSome, PutsBy}
 use Rattle.hb_point.specs.SessionRows.{PointRow}
 use Rattle.hb_point.specs.SplitRows.{PutsInHalf, SplitsOrFull}
@@ -105,5 +105,5 @@ pub asked_put_by_view : (v : Page) (state : Activity) (next : Next) (line : Line
 asked_put_by_view v state next line source fresh is puts = so v (λ page. PutsBy line source fresh page next) _ (λ page by meta free id first asked. asked_put state meta free id page first next line source fresh is asked by) puts
 
 -- and the line of a session that puts inserts a record
-pub inserts_into : (v : Page) (state : Activity) (line : Line) (source fresh : ℕ) → state ≡ at.SessionPut line source fresh → IsLiveAnd v (PutsInto state) → IsLiveAnd v (λ page. InsertsInto line page)
-inserts_into v state line source fresh is asked = so v (PutsInto state) (λ page. InsertsInto line page) (λ page h. subst (λ (a : Activity). PutsInto a page) is h) asked
+pub inserts_into : (v : Page) (state : Activity) (line : Line) (source fresh : ℕ) → state ≡ at.SessionPut line source fresh → IsLiveAnd v (MayPutThere state) → IsLiveAnd v (λ page. InsertsInto line page)
+inserts_into v state line source fresh is asked = so v (MayPutThere state) (λ page. InsertsInto line page) (λ page h. subst (λ (a : Activity). MayPutThere a page) is h) asked

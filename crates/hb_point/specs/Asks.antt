@@ -68,9 +68,9 @@ SplitsNow (at.SessionSplit line held) (Some next) = Unit {0}
 SplitsNow activity free = ⊥
 
 -- A session puts, and what it puts is a record that the page can hold.
-abbrev pub PutsInto : Activity → LivePage → Type 0
-PutsInto (at.SessionPut line source fresh) page = InsertsInto line page
-PutsInto other page = ⊥
+abbrev pub MayPutThere : Activity → LivePage → Type 0
+MayPutThere (at.SessionPut line source fresh) page = InsertsInto line page
+MayPutThere other page = ⊥
 
 -- the deed that an answer is for an actor with this line in hand
 abbrev pub deed_for : Line → Next → Deed

@@ -6,7 +6,7 @@ ghost use Rattle.hb_activity.specs.Deciding.{deed_of, given_pages, given_sight};
 ghost use Rattle.hb_activity.specs.Walks.{IsSessionWalk};
 ghost use Rattle.hb_frag.specs.declared.pages.LivePage.{LivePage as OnePage};
 ghost use Rattle.hb_layout.specs.declared.meta.Meta.{Meta as Facts};
-ghost use Rattle.hb_point.specs.Asks.{MayAsk, PutsInto, SplitsNow};
+ghost use Rattle.hb_point.specs.Asks.{MayAsk, MayPutThere, SplitsNow};
 ghost use Rattle.hb_point.specs.SessionRows.{PointRow};
 ghost use Rattle.hb_view.specs.Views.{IsLiveAnd};
 
@@ -56,7 +56,7 @@ pub fn next(
 /// What the step of a session comes to that puts its record into one of the halves of a page. The half that stayed in its place
 /// is read from its bytes, so no memory is wanted. It is the row that `next` gives, whatever else that is given.
 pub fn put_in_half(state: Activity, view: &PageView<'_>) -> Next
-    requires asked { IsLiveAnd view.now (PutsInto state) }
+    requires asked { IsLiveAnd view.now (MayPutThere state) }
     ensures row { IsLiveAnd view.now (λ page. (meta : Facts) (free : Option (ℕ × ℕ)) (id : ℕ) (first : Option OnePage) → MayAsk state meta free id page first →
         PointRow state (given_sight meta (given_pages state id page first) free) id page (deed_of state result)) }
 {

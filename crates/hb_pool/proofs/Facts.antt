@@ -1,5 +1,9 @@
 pub mod Behind
 pub mod Firsts
+pub mod Front
+pub mod Leaving
+pub mod Lodged
 pub mod Others
 pub mod Pooled
+pub mod Slotted
 pub mod Told

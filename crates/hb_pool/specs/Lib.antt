@@ -1,5 +1,6 @@
 pub mod Frames
 pub mod Pools
+pub mod Slots
 pub mod Kept
 pub mod Laws
 pub mod Editing

@@ -9,6 +9,7 @@
 #![tactic(auto)]
 
 pub mod laws;
+mod order;
 mod pools;
 mod slots;
 mod threads;

@@ -1,14 +1,16 @@
-//! The pool: frames in the order of use, and the blocks of those that are empty.
+//! The pool: frames in the order of use, in slots, and the blocks of those that are empty.
 
-ghost use Rattle.std.specs.Prelude.{◌≡◌, ◌-◌, ◌<◌, ◌≤◌, [], vec_len, vec_capacity, None, Some, IfOk, IfSome, IsSome, IsTrue, if◌then◌else◌, nat_lt, option_copied, option_map, find, count_by, reverse};
-ghost use Rattle.std.specs.List.{position, position_or_len};
+ghost use Rattle.std.specs.Prelude.{◌≡◌, ◌-◌, ◌<◌, ◌≤◌, ◌∷◌, ◌++◌, [], vec_len, vec_capacity, None, Some, IfOk, IfSome, IsSome, IsTrue, if◌then◌else◌, length, get_or, option_copied, option_map, find, All};
+ghost use Rattle.std.specs.List.{position_or_len};
 ghost use Rattle.std.specs.Option.{IsSomeAnd};
 ghost use Rattle.std.specs.Set.{remove_key};
-ghost use Rattle.hb_pool.specs.Frames.{has_id, may_go, pinned, unpinned, filled, clean};
 ghost use Rattle.std.specs.Fn.{FnOnceReturnsAtMut, FnOnceTakesAtMut};
 ghost use Rattle.hb_pool.specs.Editing.{Edits};
+ghost use Rattle.hb_pool.specs.Frames.{may_go, pinned, unpinned, filled, clean, fresh};
 ghost use Rattle.hb_pool.specs.Pools.{frame_of, places, put_last, in_place, brought, IsPool, HaveWholePages};
+ghost use Rattle.hb_pool.specs.Slots.{HaveSlots, empty_slot, entry_of, framed, frames_in};
 
+use crate::order::Order;
 use crate::slots::{Block, Slot};
 use hb_space::NoMemory;
 use hb_space::form::PAGE;
@@ -20,12 +22,13 @@ pub const FRAMES: usize = 128;
 
 /// Pages in memory, in the order of use.
 ///
-/// A look-up goes over the frames one by one, from the one that was used last. A frame that gets another
-/// place in the order is a few words that move; its page's bytes stay in their block.
+/// A page is found by a map, which holds the order of use. Its bytes and marks stay in their slot.
 #[derive(Drop)]
 pub struct Pool {
-    // the frames with a page, the least recently used first
-    used: Vec<Slot>,
+    // the pages in memory, the least recently used first, and the slot of each
+    order: Order,
+    // what is in memory of them
+    slots: Vec<Slot>,
     // the blocks of the frames without one
     spare: Vec<Block>,
     // how many frames are dirty or pinned
@@ -36,12 +39,13 @@ impl Model for Pool {
     ghost use Rattle.std.specs.Prelude.{ℕ, List, vec_len, vec_capacity};
     ghost use Rattle.hb_pool.specs.Frames.{Frame};
     ghost use Rattle.hb_pool.specs.Kept.{PoolKeeps};
+    ghost use Rattle.hb_pool.specs.Slots.{frames_in};
 
     ghost Value = { List (Frame (List ℕ)) };
 
-    ghost view = { λ p. p.used.items };
+    ghost view = { λ p. frames_in p.order p.slots.items };
 
-    ghost invariant = { λ p. PoolKeeps p.used.items (vec_capacity p.used) (vec_len p.spare) p.held };
+    ghost invariant = { λ p. PoolKeeps p.order p.slots.items (vec_capacity p.slots) (vec_len p.spare) p.held };
 }
 
 impl Pool {
@@ -50,7 +54,8 @@ impl Pool {
         ensures { IfOk result (λ p. p ≡ []) }
     {
         Ok(Pool {
-            used: Vec::with_capacity(alloc, FRAMES)?,
+            order: Order::new(alloc)?,
+            slots: Vec::with_capacity(alloc, FRAMES)?,
             spare: blocks(alloc)?,
             held: 0,
         })
@@ -81,10 +86,10 @@ impl Pool {
         requires { IsSomeAnd (frame_of self.old id) (λ f. f.pins < 255) }
         ensures { self.new ≡ put_last id pinned self.old }
     {
-        let mut slot = take_out(&mut self.used, id);
+        let place = self.order.touch(id) as usize;
+        let slot = &mut self.slots[place];
         self.held += one_if(!slot.must_stay());
         slot.pin();
-        self.used.push_reserved(slot);
     }
 
     /// One pin less for the page. The order stays.
@@ -92,8 +97,8 @@ impl Pool {
         requires { IsSomeAnd (frame_of self.old id) (λ f. 0 < f.pins) }
         ensures { self.new ≡ in_place id unpinned self.old }
     {
-        let place = self.place(id);
-        let slot = &mut self.used[place];
+        let place = self.order.lies_in(id) as usize;
+        let slot = &mut self.slots[place];
         slot.unpin();
         self.held -= one_if(!slot.must_stay());
     }
@@ -105,9 +110,14 @@ impl Pool {
         requires place { 0 < places self.old }
         ensures { self.new ≡ brought id bytes.now dirty self.old }
     {
-        let block = make_room(&mut self.used, &mut self.spare);
         self.held += one_if(dirty);
-        self.used.push_reserved(Slot::new(block, id, bytes, dirty));
+        match self.spare.pop() {
+            Some(block) => {
+                let slot = Slot::new(block, bytes, dirty);
+                add_last(&mut self.order, &mut self.slots, id, slot);
+            }
+            None => replace_first(&mut self.order, &mut self.slots, id, bytes, dirty),
+        }
     }
 
     /// Other bytes for the page, which is dirty now, and last in the order.
@@ -115,10 +125,10 @@ impl Pool {
         requires { IsSome (frame_of self.old id) }
         ensures { self.new ≡ put_last id (filled bytes.now) self.old }
     {
-        let mut changed = take_out(&mut self.used, id);
+        let place = self.order.touch(id) as usize;
+        let changed = &mut self.slots[place];
         self.held += one_if(!changed.must_stay());
         changed.fill(bytes);
-        self.used.push_reserved(changed);
     }
 
     /// The page's bytes are changed where they stand. It is dirty now, and last in the order.
@@ -126,10 +136,10 @@ impl Pool {
         requires { IsSomeAnd (frame_of self.old id) (λ f. FnOnceTakesAtMut F.FnOnce edit f.bytes) }
         ensures { Edits id (λ old new. FnOnceReturnsAtMut F.FnOnce edit old tt new) self.old self.new }
     {
-        let mut edited = take_out(&mut self.used, id);
+        let place = self.order.touch(id) as usize;
+        let edited = &mut self.slots[place];
         self.held += one_if(!edited.must_stay());
         edited.edit(edit);
-        self.used.push_reserved(edited);
     }
 
     /// The first dirty page in the order; `None` exactly where none is dirty.
@@ -137,9 +147,12 @@ impl Pool {
         ensures first { result ≡ option_map (λ f. f.id) (find (λ f. f.dirty) self.now) }
         ensures dirty { IfSome result (λ id. IsSomeAnd (frame_of self.now id) (λ f. IsTrue f.dirty)) }
     {
-        match first_dirty(self.used.as_slice()) {
-            Some(slot) => Some(slot.id()),
-            None => None,
+        let place = first_dirty(&self.slots, self.order.slots());
+        let ids = self.order.ids();
+        if place < ids.len() {
+            Some(ids[place])
+        } else {
+            None
         }
     }
 
@@ -148,8 +161,8 @@ impl Pool {
         requires { IsSomeAnd (frame_of self.old id) (λ f. IsTrue f.dirty) }
         ensures { self.new ≡ in_place id clean self.old }
     {
-        let place = self.place(id);
-        let written = &mut self.used[place];
+        let place = self.order.lies_in(id) as usize;
+        let written = &mut self.slots[place];
         written.clean();
         self.held -= one_if(!written.must_stay());
     }
@@ -163,18 +176,12 @@ impl Pool {
         (FRAMES - self.held) as u32
     }
 
-    // The page's frame, where it has one.
+    // What is in memory of the page, where it is.
     fn slot(&self, id: u32) -> Option<&Slot>
-        ensures { option_copied result ≡ frame_of self.now id }
+        ensures { option_map (framed id) (option_copied result) ≡ frame_of self.now id }
     {
-        slot_of(self.used.as_slice(), id)
-    }
-
-    // Where the page's frame stands, or how many there are where it has none.
-    fn place(&self, id: u32) -> usize
-        ensures { result ≡ position_or_len (has_id id) self.now }
-    {
-        place_of(self.used.as_slice(), id)
+        let place = self.order.slot_of(id)?;
+        Some(&self.slots[place as usize])
     }
 }
 
@@ -189,96 +196,60 @@ fn blocks(alloc: Global) -> Result<Vec<Block>, NoMemory>
     Ok(blocks)
 }
 
-// The page's frame, where it has one. The search begins behind, where the pages stand that were used last.
-fn slot_of(used: &[Slot], id: u32) -> Option<&Slot>
-    requires { count_by (has_id id) used.now ≤ 1 }
-    ensures { option_copied result ≡ frame_of used.now id }
+// The page comes into a slot that is made for it.
+fn add_last(order: &mut Order, slots: &mut Vec<Slot>, id: u32, slot: Slot)
+    requires absent { entry_of order.old id ≡ None }
+    requires few { length order.old < FRAMES }
+    requires each { HaveSlots order.old slots.old.items }
+    requires room { vec_len slots.old < vec_capacity slots.old }
+    ensures frames { frames_in order.new slots.new.items ≡ frames_in order.old slots.old.items ++ framed id slot ∷ [] }
+    ensures each { HaveSlots order.new slots.new.items }
+    ensures room { vec_capacity slots.new ≡ vec_capacity slots.old }
 {
-    last_of(used, id)
+    order.insert(id, slots.len() as u8);
+    slots.push_reserved(slot);
 }
 
-// The last frame with the page.
-fn last_of(used: &[Slot], id: u32) -> Option<&Slot>
-    ensures { option_copied result ≡ frame_of (reverse used.now) id }
+// The page comes into the slot of the first one that may go, which leaves the order.
+fn replace_first(order: &mut Order, slots: &mut Vec<Slot>, id: u32, bytes: &[u8; PAGE], dirty: bool)
+    requires absent { entry_of order.old id ≡ None }
+    requires few { length order.old ≤ FRAMES }
+    requires there { IsSome (find may_go (frames_in order.old slots.old.items)) }
+    requires each { HaveSlots order.old slots.old.items }
+    ensures frames { frames_in order.new slots.new.items ≡ remove_key may_go (frames_in order.old slots.old.items) ++ fresh id bytes.now dirty ∷ [] }
+    ensures each { HaveSlots order.new slots.new.items }
+    ensures room { vec_capacity slots.new ≡ vec_capacity slots.old }
 {
-    used.iter().rev().find(|slot| slot.has_id(id))
+    let first = first_to_go(slots, order.slots());
+    let place = order.let_go(first);
+    slots[place as usize].take_in(bytes, dirty);
+    order.insert(id, place);
 }
 
-// Where the page's frame stands, or how many there are where it has none.
-fn place_of(used: &[Slot], id: u32) -> usize
-    requires { count_by (has_id id) used.now ≤ 1 }
-    ensures { result ≡ position_or_len (has_id id) used.now }
+// Where the first page that may go stands in the order, or how many there are where none may.
+fn first_to_go(slots: &[Slot], order: &[u8]) -> usize
+    requires { All (λ n. n < length slots.now) order.now }
+    ensures { result ≡ position_or_len (λ n. may_go (framed 0 (get_or slots.now n empty_slot))) order.now }
 {
-    match behind(used, id) {
-        Some(later) => used.len() - 1 - later,
-        None => used.len(),
+    for place in 0..order.len() {
+        if !slots[order[place] as usize].must_stay() {
+            return place;
+        }
     }
+    order.len()
 }
 
-// How many frames stand behind it.
-fn behind(used: &[Slot], id: u32) -> Option<usize>
-    ensures { result ≡ position (has_id id) (reverse used.now) }
+// The same of the first dirty page.
+fn first_dirty(slots: &[Slot], order: &[u8]) -> usize
+    requires { All (λ n. n < length slots.now) order.now }
+    ensures { result ≡ position_or_len (λ n. (get_or slots.now n empty_slot).dirty) order.now }
 {
-    used.iter().rev().position(|slot| slot.has_id(id))
-}
-
-// Takes the page's frame out of the order.
-fn take_out(used: &mut Vec<Slot>, id: u32) -> Slot
-    requires there { IsSome (frame_of used.old.items id) }
-    requires once { count_by (has_id id) used.old.items ≤ 1 }
-    ensures frame { frame_of used.old.items id ≡ Some result }
-    ensures rest { used.new.items ≡ remove_key (has_id id) used.old.items }
-    ensures room { vec_capacity used.new ≡ vec_capacity used.old }
-{
-    let place = place_of(used.as_slice(), id);
-    used.remove(place)
-}
-
-// The block of an empty frame, or that of the first frame that may go, which leaves the order.
-fn make_room(used: &mut Vec<Slot>, spare: &mut Vec<Block>) -> Block
-    requires { vec_len spare.old ≡ 0 → IsSome (find may_go used.old.items) }
-    ensures left { used.new.items ≡ (if nat_lt 0 (vec_len spare.old) then used.old.items else remove_key may_go used.old.items) }
-    ensures room { vec_capacity used.new ≡ vec_capacity used.old }
-    ensures spare { vec_len spare.new ≡ vec_len spare.old - 1 }
-{
-    match spare.pop() {
-        Some(block) => block,
-        None => first_out(used),
+    for place in 0..order.len() {
+        if slots[order[place] as usize].is_dirty() {
+            return place;
+        }
     }
-}
-
-// Takes the first frame that may go out of the order, for its block.
-fn first_out(used: &mut Vec<Slot>) -> Block
-    requires { IsSome (find may_go used.old.items) }
-    ensures left { used.new.items ≡ remove_key may_go used.old.items }
-    ensures room { vec_capacity used.new ≡ vec_capacity used.old }
-{
-    let place = first_place(used.as_slice());
-    used.remove(place).into_block()
-}
-
-// Where the first frame that may go stands, or how many there are where none may.
-fn first_place(used: &[Slot]) -> usize
-    ensures { result ≡ position_or_len may_go used.now }
-{
-    match search_free(used) {
-        Some(place) => place,
-        None => used.len(),
-    }
-}
-
-// The same, where one may go.
-fn search_free(used: &[Slot]) -> Option<usize>
-    ensures { result ≡ position may_go used.now }
-{
-    used.iter().position(|slot| !slot.must_stay())
-}
-
-// The first dirty frame.
-fn first_dirty(used: &[Slot]) -> Option<&Slot>
-    ensures { option_copied result ≡ find (λ f. f.dirty) used.now }
-{
-    used.iter().find(|slot| slot.is_dirty())
+    order.len()
 }
 
 // One where the test passed, else none.

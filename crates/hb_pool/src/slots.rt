@@ -1,4 +1,4 @@
-//! A page's frame: its number, its marks, and the block of memory that its bytes lie in.
+//! A slot: a block of memory with the bytes of a page, and the marks of its frame.
 
 ghost use Rattle.std.specs.Prelude.{◌≡◌, ◌<◌, All};
 ghost use Rattle.hb_pool.specs.Editing.{AreWhole};
@@ -6,55 +6,57 @@ ghost use Rattle.hb_pool.specs.Editing.{AreWhole};
 use hb_space::form::PAGE;
 use std::marker::Model;
 
-/// The memory of one page. It stays where it is when its frame gets another place in the order.
+/// The memory of one page.
 pub(crate) type Block = Box<[u8; PAGE]>;
 
-/// A page in memory.
+/// What is in memory of a page. It stays in its slot, whatever place the page has in the order of use.
 #[derive(Drop)]
 pub(crate) struct Slot {
-    id: u32,
+    block: Block,
     dirty: bool,
     pins: u8,
-    block: Block,
 }
 
 impl Model for Slot {
-    ghost use Rattle.std.specs.Prelude.{ℕ, List};
-    ghost use Rattle.hb_pool.specs.Frames.{Frame};
+    ghost use Rattle.hb_pool.specs.Slots.{Content};
 
-    ghost Value = { Frame (List ℕ) };
+    ghost Value = { Content };
 
-    ghost view = { λ s. record { id = s.id; bytes = s.block.value; dirty = s.dirty; pins = s.pins } };
+    ghost view = { λ s. record { bytes = s.block.value; dirty = s.dirty; pins = s.pins } };
 }
 
 impl Slot {
+    ghost use Rattle.std.specs.Prelude.{ℕ};
     ghost use Rattle.std.specs.Fn.{FnOnceReturnsAtMut, FnOnceTakesAtMut};
     ghost use Rattle.hb_pool.specs.Editing.{Fills};
-    ghost use Rattle.hb_pool.specs.Frames.{has_id, must_stay, pinned, unpinned, filled, clean, fresh};
+    ghost use Rattle.hb_pool.specs.Frames.{must_stay, pinned, unpinned, filled, clean, fresh};
+    ghost use Rattle.hb_pool.specs.Slots.{framed};
 
     /// A page that nobody has pinned yet, in this block.
-    pub(crate) fn new(mut block: Block, id: u32, bytes: &[u8; PAGE], dirty: bool) -> Slot
-        ensures { result ≡ fresh id bytes.now dirty }
+    pub(crate) fn new(block: Block, bytes: &[u8; PAGE], dirty: bool) -> Slot
+        ensures { (id : ℕ) → framed id result ≡ fresh id bytes.now dirty }
     {
-        *block = *bytes;
-        Slot {
-            id,
+        let mut slot = Slot {
+            block,
             dirty,
             pins: 0,
-            block,
-        }
+        };
+        slot.take_in(bytes, dirty);
+        slot
     }
 
-    /// Whether it is the page of this number.
-    pub(crate) fn has_id(&self, id: u32) -> bool
-        ensures { result ≡ has_id id self.now }
+    /// Another page, which nobody has pinned yet.
+    pub(crate) fn take_in(&mut self, bytes: &[u8; PAGE], dirty: bool)
+        ensures { (id : ℕ) → framed id self.new ≡ fresh id bytes.now dirty }
     {
-        self.id == id
+        *self.block = *bytes;
+        self.dirty = dirty;
+        self.pins = 0;
     }
 
     /// Whether it is dirty or pinned.
     pub(crate) fn must_stay(&self) -> bool
-        ensures { result ≡ must_stay self.now }
+        ensures { (id : ℕ) → result ≡ must_stay (framed id self.now) }
     {
         self.dirty || self.pins != 0
     }
@@ -64,13 +66,6 @@ impl Slot {
         ensures { result ≡ self.now.dirty }
     {
         self.dirty
-    }
-
-    /// The page's number.
-    pub(crate) fn id(&self) -> u32
-        ensures { result ≡ self.now.id }
-    {
-        self.id
     }
 
     /// The page's bytes.
@@ -90,7 +85,7 @@ impl Slot {
     /// One pin more.
     pub(crate) fn pin(&mut self)
         requires { self.old.pins < 255 }
-        ensures { self.new ≡ pinned self.old }
+        ensures { (id : ℕ) → framed id self.new ≡ pinned (framed id self.old) }
     {
         self.pins += 1;
     }
@@ -98,14 +93,14 @@ impl Slot {
     /// One pin less.
     pub(crate) fn unpin(&mut self)
         requires { 0 < self.old.pins }
-        ensures { self.new ≡ unpinned self.old }
+        ensures { (id : ℕ) → framed id self.new ≡ unpinned (framed id self.old) }
     {
         self.pins -= 1;
     }
 
     /// Other bytes, which are nowhere else yet.
     pub(crate) fn fill(&mut self, bytes: &[u8; PAGE])
-        ensures { self.new ≡ filled bytes.now self.old }
+        ensures { (id : ℕ) → framed id self.new ≡ filled bytes.now (framed id self.old) }
     {
         *self.block = *bytes;
         self.dirty = true;
@@ -114,7 +109,7 @@ impl Slot {
     /// Other bytes, made of those that it has. They are nowhere else yet.
     pub(crate) fn edit<F: FnOnce(&mut [u8; PAGE])>(&mut self, edit: F)
         requires { FnOnceTakesAtMut F.FnOnce edit self.old.bytes }
-        ensures { Fills (λ old new. FnOnceReturnsAtMut F.FnOnce edit old tt new) self.old self.new }
+        ensures { (id : ℕ) → Fills (λ old new. FnOnceReturnsAtMut F.FnOnce edit old tt new) (framed id self.old) (framed id self.new) }
     {
         edit(&mut self.block);
         are_whole(&self.block);
@@ -123,15 +118,9 @@ impl Slot {
 
     /// No longer dirty.
     pub(crate) fn clean(&mut self)
-        ensures { self.new ≡ clean self.old }
+        ensures { (id : ℕ) → framed id self.new ≡ clean (framed id self.old) }
     {
         self.dirty = false;
-    }
-
-    /// The block alone.
-    pub(crate) fn into_block(self) -> Block {
-        let Slot { block, .. } = self;
-        block
     }
 }
 

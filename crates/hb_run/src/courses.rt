@@ -231,14 +231,16 @@ impl<D: Disk, K: Sink> Course<D, K> {
     fn news(&self, seat: &Seat, moved: bool, before: &Mark) -> News
         ensures { IsNews (seat.now.actor - 1) moved before.now.settled before.now.round self.now.roster.coming (course_seen D.model K.model self.now) result }
     {
-        let done = self.is_done();
         let now = self.mark();
+        let posts = self.jobs_left(&JobKind::Post) != 0;
+        let merges = self.jobs_left(&JobKind::Merge) != 0;
+        let done = self.left == 0 && !posts && !merges;
         News {
             place: usize::from(seat.actor) - 1,
             moved,
             stopped: self.is_stopped(),
-            posts: self.jobs_left(&JobKind::Post) != 0 || done,
-            merges: self.jobs_left(&JobKind::Merge) != 0 || done,
+            posts: posts || done,
+            merges: merges || done,
             flushes: self.left == 0 || self.core.flush_due(),
             settles: now.settled != before.settled
                 || now.round != before.round

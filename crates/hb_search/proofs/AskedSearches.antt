@@ -1,5 +1,6 @@
 -- The parts of the decider together are the row of a search.
-use Rattle.std.proofs.Common.{◌≡◌, ◌⊎◌, inl, inr, ℕ, List, [], ◌∷◌, ◌++◌, filter, Option, Some, None, sym, ap, subst, ◌∙◌}
+use Rattle.std.proofs.Common.{◌≡◌, ◌⊎◌, inl, inr, ℕ, ◌-◌, List, [], ◌∷◌, ◌++◌, length, Option, Some, None, sym, ap, subst, ◌∙◌}
+use Rattle.std.specs.List.{slice_get}
 use Rattle.std.specs.Prelude.{MatchOption}
 use Rattle.std.specs.Result.{IfOk, OnErr}
 use Rattle.std.specs.declared.result.Result.{Result}
@@ -17,12 +18,14 @@ use Rattle.hb_frag.specs.declared.leaves.Leaf.{Leaf}
 use Rattle.hb_frag.specs.declared.leaves.Leaf.TheVariants.{Records}
 use Rattle.hb_frag.specs.declared.pages.LivePage.{LivePage}
 use Rattle.hb_layout.specs.declared.meta.Meta.{Meta}
-use Rattle.hb_search.specs.Gathering.{GathersBy, GoesOnBy, IsLeafAhead, SearchesBy, boxes_then}
-use Rattle.hb_search.specs.SearchRows.{Gathers}
-use Rattle.hb_search.specs.Searching.{IsGathering, SearchRow, StaysGathering}
+use Rattle.hb_search.specs.Gathering.{GoesBehind, SearchesBy, boxes_then}
+use Rattle.hb_search.specs.SearchRows.{Gathers, SearchGoesOn}
+use Rattle.hb_search.specs.Searching.{SearchRow, StaysGathering}
+use Rattle.hb_search.proofs.LeafAhead.{last_splits}
 use Rattle.hb_set.specs.declared.scripts.Line.{Line}
-use Rattle.hb_space.specs.Boxes.{Area, common_area, holds, pieces_outside}
+use Rattle.hb_space.specs.Boxes.{Area, common_area, pieces_outside}
 use Rattle.hb_space.specs.declared.records.Record.{Record}
+use Rattle.hb_view.specs.Within.{records_within}
 
 -- the page's leaf at a point that was copied
 pub leaf_here : (page : LivePage) (corner p : List ℕ) (seen leaf : Leaf) (area : Area) → corner ≡ p → leaf_at page corner ≡ Some (record { leaf = seen; area = area }) → seen ≡ leaf → leaf_at page p ≡ Some (record { leaf = leaf; area = area })
@@ -45,25 +48,27 @@ passes_on meta line rest found id page next p leaf area goal there names then_is
 
 -- ---- a leaf of records
 
-pub gathers : (meta : Meta) (line : Line) (rest : List Area) (found records : List Record) (id : ℕ) (page : LivePage) (next : Next) (p : List ℕ) (area : Area) →
-    goal_of line.command rest ≡ Some p → leaf_at page p ≡ Some (record { leaf = Records records; area = area }) → IsLeafAhead rest found records area → GathersBy meta line rest found records area next →
+pub gathers : (meta : Meta) (line : Line) (rest : List Area) (found gathered records : List Record) (id : ℕ) (page : LivePage) (next : Next) (p : List ℕ) (at_hand area : Area) →
+    goal_of line.command rest ≡ Some p → leaf_at page p ≡ Some (record { leaf = Records records; area = area }) → slice_get rest (length rest - 1) ≡ Some at_hand → gathered ≡ found ++ records_within at_hand records → GoesBehind meta line rest gathered area next →
     SearchesBy meta line rest found id page next
-gathers meta line rest found records id page next p area goal there ahead by = λ held pages free.
-    subst (λ (o : Option (List ℕ)). MatchOption o ⊥ (λ q. PassesOn page q (at.SessionWalk line (Some id) rest found) (deed_of (at.SessionWalk line held rest found) next) ⊎ Gathers (given_sight meta pages free) line rest found page q (deed_of (at.SessionWalk line held rest found) next))) (sym goal) (inr (record {
-      front = ahead.front;
-      at_hand = ahead.at_hand;
-      boxes = ahead.boxes;
+gathers meta line rest found gathered records id page next p at_hand area goal there last taken by = λ held pages free.
+    let split = last_splits rest at_hand last in
+    let deed = deed_of (at.SessionWalk line held rest found) next in
+    subst (λ (o : Option (List ℕ)). MatchOption o ⊥ (λ q. PassesOn page q (at.SessionWalk line (Some id) rest found) deed ⊎ Gathers (given_sight meta pages free) line rest found page q deed)) (sym goal) (inr (record {
+      front = split.0;
+      at_hand = at_hand;
+      boxes = split.1;
       records = records;
       area = area;
       leaf = there;
-      goes = by ahead.front ahead.at_hand ahead.boxes held rest found pages free;
+      goes = subst (λ (l : List Record). SearchGoesOn (given_sight meta pages free) line (boxes_then split.0 at_hand area) l deed) taken (by split.0 at_hand split.1 held rest found pages free);
     }))
 
-pub gathers_if : {E : Type 0} (result : Result Next E) (meta : Meta) (line : Line) (rest : List Area) (found records : List Record) (id : ℕ) (page : LivePage) (p : List ℕ) (area : Area) →
-    goal_of line.command rest ≡ Some p → leaf_at page p ≡ Some (record { leaf = Records records; area = area }) → IsLeafAhead rest found records area → IfOk result (λ next. (meta : Meta) → GathersBy meta line rest found records area next) →
+pub gathers_if : {E : Type 0} (result : Result Next E) (meta : Meta) (line : Line) (rest : List Area) (found gathered records : List Record) (id : ℕ) (page : LivePage) (p : List ℕ) (at_hand area : Area) →
+    goal_of line.command rest ≡ Some p → leaf_at page p ≡ Some (record { leaf = Records records; area = area }) → slice_get rest (length rest - 1) ≡ Some at_hand → gathered ≡ found ++ records_within at_hand records → IfOk result (λ next. (meta : Meta) → GoesBehind meta line rest gathered area next) →
     IfOk result (SearchesBy meta line rest found id page)
-gathers_if (Ok next) meta line rest found records id page p area goal there ahead by = gathers meta line rest found records id page next p area goal there ahead (by meta)
-gathers_if (Err why) meta line rest found records id page p area goal there ahead by = tt
+gathers_if (Ok next) meta line rest found gathered records id page p at_hand area goal there last taken by = gathers meta line rest found gathered records id page next p at_hand area goal there last taken (by meta)
+gathers_if (Err why) meta line rest found gathered records id page p at_hand area goal there last taken by = tt
 
 pub meets_records : {X E : Type 0} (result : Result X E) (page : LivePage) (goal : Option (List ℕ)) (p : List ℕ) (records : List Record) (area : Area) → goal ≡ Some p → leaf_at page p ≡ Some (record { leaf = Records records; area = area }) → OnErr result (MatchOption goal ⊥ (MeetsRecords page))
 meets_records (Ok x) page goal p records area is there = tt
@@ -76,17 +81,9 @@ taken_last rest held front left at_hand taken same is boxes = same_from_push lef
 pub boxes_so : (front left boxes : List Area) (at_hand taken area : Area) → (left ≡ front) × (taken ≡ at_hand) → boxes ≡ left ++ pieces_outside taken (common_area taken area) → boxes ≡ boxes_then front at_hand area
 boxes_so front left boxes at_hand taken area same is = is ∙ ap (λ (l : List Area). l ++ pieces_outside taken (common_area taken area)) same.0 ∙ ap (λ (a : Area). front ++ pieces_outside a (common_area a area)) same.1
 
-pub found_so : (found before after records seen : List Record) (at_hand taken : Area) → taken ≡ at_hand → before ≡ found → seen ≡ records → after ≡ before ++ filter (λ r. holds taken r.key) seen → after ≡ found ++ filter (λ r. holds at_hand r.key) records
-found_so found before after records seen at_hand taken same was all is =
-    is ∙ ap (λ (l : List Record). l ++ filter (λ r. holds taken r.key) seen) was ∙ ap (λ (l : List Record). found ++ filter (λ r. holds taken r.key) l) all ∙ ap (λ (a : Area). found ++ filter (λ r. holds a r.key) records) same
-
-pub gathering_so : (boxes then_boxes : List Area) (gathered then_found : List Record) → boxes ≡ then_boxes → gathered ≡ then_found → IsGathering then_boxes then_found → IsGathering boxes gathered
-gathering_so boxes then_boxes gathered then_found same all gathering =
-    subst (λ (l : List Record). IsGathering boxes l) (sym all) (subst (λ (l : List Area). IsGathering l then_found) (sym same) gathering)
-
-pub goes_so : (meta : Meta) (line : Line) (next : Next) (boxes then_boxes : List Area) (gathered then_found : List Record) → boxes ≡ then_boxes → gathered ≡ then_found → GoesOnBy meta line boxes gathered next → GoesOnBy meta line then_boxes then_found next
-goes_so meta line next boxes then_boxes gathered then_found same all goes =
-    subst (λ (l : List Record). GoesOnBy meta line then_boxes l next) all (subst (λ (l : List Area). GoesOnBy meta line l gathered next) same goes)
+-- what was found with what was taken of a leaf
+pub found_so : (found before after records seen : List Record) (at_hand : Area) → before ≡ found → seen ≡ records → after ≡ before ++ records_within at_hand seen → after ≡ found ++ records_within at_hand records
+found_so found before after records seen at_hand was all is = is ∙ ap (λ (l : List Record). l ++ records_within at_hand seen) was ∙ ap (λ (l : List Record). found ++ records_within at_hand l) all
 
 -- where a step leads may be gone on from
 pub stays_so : (reached next : Activity) → reached ≡ next → StaysGathering next → StaysGathering reached

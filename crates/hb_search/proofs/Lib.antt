@@ -3,3 +3,4 @@ pub mod SearchExamples
 pub mod Sorted
 pub mod LeafAhead
 pub mod AskedSearches
+pub mod SeenSearches

@@ -1,5 +1,5 @@
 -- The row of a search, at a page whose leaf at the point of its walk has records.
-use Rattle.std.specs.Prelude.{◌≡◌, ℕ, List, [], ◌∷◌, ◌++◌, filter, Some, None, AllPairs}
+use Rattle.std.specs.Prelude.{◌≡◌, ℕ, List, [], ◌∷◌, ◌++◌, Some, None, AllPairs}
 use Rattle.std.specs.List.Sorted.{IsPermutation}
 use Rattle.hb_space.specs.declared.records.Record.{Record}
 use Rattle.hb_frag.specs.declared.leaves.Leaf.TheVariants.{Records}
@@ -11,11 +11,8 @@ use Rattle.hb_activity.specs.Deeds.{Deed, moves_to, takes_effect}
 use Rattle.hb_activity.specs.Sights.{Sight}
 use Rattle.hb_frag.specs.Leaves.{leaf_at}
 use Rattle.hb_frag.specs.Rules.{Precedes}
-use Rattle.hb_space.specs.Boxes.{Area, common_area, holds, pieces_outside}
-
--- the records that lie in a box
-abbrev pub records_within : Area → List Record → List Record
-records_within at_hand records = filter (λ r. holds at_hand r.key) records
+use Rattle.hb_space.specs.Boxes.{Area, common_area, pieces_outside}
+use Rattle.hb_view.specs.Within.{records_within}
 
 -- A search at a leaf of records takes those of the box at hand, and has what of this lies outside the leaf's box before
 -- it, the last piece first. With no box left its records are put in the order of their points, and it takes effect.

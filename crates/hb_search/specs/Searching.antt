@@ -1,11 +1,16 @@
 -- What the decider of a search's step is given, and what it may rely on.
-use Rattle.std.specs.Prelude.{◌⊎◌, ℕ, List, Some, All, AllPairs, MatchOption}
+use Rattle.std.specs.Prelude.{◌⊎◌, ℕ, List, Option, Some, None, All, AllPairs, MatchOption}
 use Rattle.hb_frag.specs.declared.pages.LivePage.{LivePage}
 use Rattle.hb_frag.specs.Rules.{Differ}
+use Rattle.hb_layout.specs.Limits.{IsLayout}
+use Rattle.hb_layout.specs.declared.meta.Meta.{Meta}
+use Rattle.hb_ops.specs.Sound.{FitsFile}
 use Rattle.hb_set.specs.declared.commands.Command.{Command}
 use Rattle.hb_set.specs.declared.commands.Command.TheVariants.{Insert, Delete, Lookup, Search}
 use Rattle.hb_activity.specs.declared.activities.Activity.{Activity}
 use Rattle.hb_activity.specs.declared.activities.Activity.TheVariants as at
+use Rattle.hb_activity.specs.declared.deciding.Next.{Next}
+use Rattle.hb_activity.specs.Deciding.{deed_of, given_pages, given_sight}
 use Rattle.hb_activity.specs.Deeds.{Deed}
 use Rattle.hb_activity.specs.Passing.{PassesOn}
 use Rattle.hb_activity.specs.Sights.{Sight}
@@ -38,6 +43,15 @@ SearchesInside page (Lookup point) rest = ⊥
 abbrev pub MaySearch : Activity → LivePage → Type 0
 MaySearch (at.SessionWalk line held rest found) page = SearchesInside page line.command rest × IsGathering rest found
 MaySearch other page = ⊥
+
+-- and where the page is read from its bytes: it keeps the rules of a page alone, in a file of a legal layout
+abbrev pub MaySearchIn : Activity → LivePage → Type 0
+MaySearchIn state page = (meta : Meta) × IsLayout meta × FitsFile meta page × MaySearch state page
+
+-- The row at such a page, in whatever file.
+abbrev pub SearchRowIn : Activity → ℕ → LivePage → Next → Type 0
+SearchRowIn state id page next = (meta : Meta) (free : Option (ℕ × ℕ)) →
+    SearchRow state (given_sight meta (given_pages state id page None) free) id page (deed_of state next)
 
 -- What the decider gives may be gone on with.
 abbrev pub StaysGathering : Activity → Type 0

@@ -4,42 +4,43 @@ ghost use Rattle.std.specs.Prelude.{◌≡◌, ℕ, List, ◌++◌, length, All,
 ghost use Rattle.std.specs.List.Sorted.{IsPermutation};
 ghost use Rattle.hb_frag.specs.Rules.{Differ, Precedes};
 ghost use Rattle.hb_layout.specs.declared.meta.Meta.{Meta as Facts};
-ghost use Rattle.hb_search.specs.Gathering.{GathersBy, GoesOnBy, IsLeafAhead};
-ghost use Rattle.hb_search.specs.SearchRows.{records_within};
+ghost use Rattle.hb_search.specs.Gathering.{GoesBehind, GoesOnBy, IsLeafBehind};
 ghost use Rattle.hb_search.specs.Searching.{IsGathering, StaysGathering};
 ghost use Rattle.hb_space.specs.Boxes.{Meets, common_area, pieces_outside};
+ghost use Rattle.hb_view.specs.Within.{records_within};
 
 use hb_activity::{Activity, Next};
 use hb_set::{Line, Reply};
 use hb_space::{Area, Areas, NoMemory, Record, Records};
 use std::alloc::Global;
 
-/// The records of the leaf that lie in the last box that remains join those that were found, and what of
-/// that box lies outside the leaf's takes its place.
-pub(crate) fn gather(
+/// Once the leaf's records that lie in the last box that remains are among those that were found: what of that box lies outside
+/// the leaf's takes its place.
+pub(crate) fn go_behind(
     alloc: Global,
     line: Line,
     rest: Areas,
-    found: Records,
-    records: &Records,
+    found: Vec<Record>,
     area: &Area,
 ) -> Result<Next, NoMemory>
-    requires { IsLeafAhead rest found records.now area.now }
-    ensures row { IfOk result (λ next. (meta : Facts) → GathersBy meta line rest found records.now area.now next) }
+    requires { IsLeafBehind rest found.items area.now }
+    ensures row { IfOk result (λ next. (meta : Facts) → GoesBehind meta line rest found.items area.now next) }
     ensures kept { IfOk result (λ next. StaysGathering next.then) }
 {
     let mut boxes = rest.into_vec();
     let Some(at_hand) = boxes.pop() else {
         unreachable!()
     };
-    let mut found = found.into_vec();
-    take_held(&mut found, records.as_slice(), &at_hand)?;
     put_pieces(alloc, &mut boxes, &at_hand, area)?;
     Ok(go_on(line, boxes, found))
 }
 
 /// Copies of the records that the box holds join those that were found.
-fn take_held(found: &mut Vec<Record>, records: &[Record], at_hand: &Area) -> Result<(), NoMemory>
+pub(crate) fn take_held(
+    found: &mut Vec<Record>,
+    records: &[Record],
+    at_hand: &Area,
+) -> Result<(), NoMemory>
     requires { All (λ r. length r.key ≡ length at_hand.now.lo) records.now }
     ensures { OnOk result (found.new.items ≡ found.old.items ++ records_within at_hand.now records.now) }
 {

@@ -5,14 +5,17 @@
 //! outside the leaf in its place, and takes effect once no box is left, with its records in the order of
 //! their points (`specs/SearchRows.antt`).
 //!
-//! `next` tells the row's outcome from the page that the step latched, and touches nothing itself. What it
-//! may be asked is in `specs/Searching.antt`.
+//! `next` tells the row's outcome from the page that the step latched, and touches nothing itself. `descend` answers as it does,
+//! and reads the page from its bytes: it copies no record but those that are found. What they may be asked is in
+//! `specs/Searching.antt`.
 #![tactic(auto)]
 
 mod deciding;
+mod descending;
 pub mod examples;
 mod gathering;
 pub mod laws;
 mod walking;
 
 pub use deciding::next;
+pub use descending::descend;

@@ -8,7 +8,7 @@ ghost use Rattle.hb_search.specs.Searching.{IsGathering, SearchesInside, StaysGa
 ghost use Rattle.hb_set.specs.declared.commands.Command.{Command as OneCommand};
 ghost use Rattle.hb_space.specs.Boxes.{Area as Extent, Holds, IsArea};
 
-use crate::gathering::gather;
+use crate::gathering::{go_behind, take_held};
 use hb_activity::{Activity, Job, Latched, Next};
 use hb_frag::{Leaf, LivePage};
 use hb_set::Line;
@@ -31,9 +31,14 @@ pub(crate) fn search(
     ensures memory { OnErr result (MatchOption (goal_of line.command rest) ⊥ (MeetsRecords latched.entry.page.now)) }
 {
     let Latched { id, page, .. } = latched;
-    let corner = last_of(page, &line, &rest).lo().copy();
+    let at_hand = last_of(page, &line, &rest);
+    let corner = at_hand.lo().copy();
     match page.leaf_at(&corner) {
-        (Leaf::Records(records), area) => gather(alloc, line, rest, found, records, &area),
+        (Leaf::Records(records), area) => {
+            let mut found = found.into_vec();
+            take_held(&mut found, records.as_slice(), at_hand)?;
+            go_behind(alloc, line, rest, found, &area)
+        }
         (Leaf::Child(_), _) => Ok(Next::moves(onward(line, id, rest, found))),
         (Leaf::Sibling(_), _) => {
             let owed = Job::owed(page.level, corner);

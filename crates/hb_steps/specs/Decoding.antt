@@ -1,4 +1,4 @@
--- Which steps decode pages.
+-- Which steps decode pages, or copy records.
 use Rattle.std.specs.Prelude.{◌<◌, Option, Some, None}
 use Rattle.hb_frag.specs.declared.pages.LivePage.{LivePage}
 use Rattle.hb_activity.specs.declared.activities.Activity.{Activity}
@@ -9,9 +9,9 @@ use Rattle.hb_steps.specs.Rows.{IsAtHand}
 use Rattle.hb_point.specs.SessionRows.{WantsBoxes}
 use Rattle.hb_search.specs.Searching.{GathersNow}
 
--- A step decodes pages, which takes memory: a search at a leaf of records, a split where a page is free, and a worker's that looks at a
--- child, scans one, tries or decides a pair, or may grow the file. A walk reads its pages where they lie, and so does a put into one of
--- the halves, a promotion, and the step that takes the page to keep.
+-- A search at a leaf of records copies those that it finds; and a step decodes pages where a split has a page free, and where a worker
+-- looks at a child, scans one, tries or decides a pair, or may grow the file: that takes memory. A walk reads its pages where they lie,
+-- and so does a put into one of the halves, a promotion, and the step that takes the page to keep.
 abbrev pub GathersThere : Option Wanted → Machine → Activity → Type 0
 GathersThere None m activity = ⊥
 GathersThere (Some wanted) m activity = (page : LivePage) × IsAtHand m activity wanted page × GathersNow activity page

@@ -2,6 +2,8 @@
 use Rattle.std.proofs.Common.{◌≡◌, inl, inr, ℕ, List, Option, Some, None, Result, Ok, Err, refl, sym, subst, ◌∙◌, arith}
 use Rattle.std.specs.Prelude.{IfErr, IsSomeAnd}
 use Rattle.hb_frag.specs.declared.pages.Page.{Page}
+use Rattle.hb_frag.specs.declared.pages.Page.TheVariants.{Live, Free}
+use Rattle.hb_lemmas.proofs.Options.{value_and}
 use Rattle.hb_frag.specs.Grammar.{HasSpelling, SpellsPage}
 use Rattle.hb_layout.specs.declared.meta.Meta.{Meta}
 use Rattle.hb_page_codec.specs.Exact.{AreBytes}
@@ -9,6 +11,8 @@ use Rattle.hb_page_codec.specs.ReadingPages.{page_of_bytes}
 use Rattle.hb_page_codec.proofs.Facts.PageLaws.{has_spelling, page_again, page_takes}
 use Rattle.hb_frag.specs.declared.pages.LivePage.{LivePage}
 use Rattle.hb_ops.specs.Sound.{BreaksFirst}
+use Rattle.hb_view.specs.Limits.{meta_with}
+use Rattle.hb_view.specs.WellMade.{KeepsRules, SpellWellMade}
 use Rattle.hb_store.specs.Fetching.{BreaksHere, HoldsNot, IsRuleOfPage}
 use Rattle.hb_store.specs.States.{IsGoodPage}
 use Rattle.hb_store.specs.declared.stops.FetchStop.{FetchStop}
@@ -23,6 +27,16 @@ pub good_read : (meta : Meta) (bytes : List ℕ) (page : Page) → AreBytes byte
 good_read meta bytes page fits read good =
     let Q : Option Page → Type 0 = λ o. IsSomeAnd o (λ page. SpellsPage bytes page × IsGoodPage meta page) in
     subst Q (sym read) (page_takes bytes page fits read, good)
+
+-- a page that one walk tells to be well made
+pub well_made_good : (meta : Meta) (bytes : List ℕ) → AreBytes bytes → SpellWellMade (meta_with meta.k meta.height meta.dcap meta.icap) bytes → IsSomeAnd (page_of_bytes bytes) (λ page. SpellsPage bytes page × IsGoodPage meta page)
+well_made_good meta bytes fits made =
+    let w = value_and (page_of_bytes bytes) (KeepsRules (meta_with meta.k meta.height meta.dcap meta.icap)) made in
+    good_read meta bytes w.0 fits w.1 (good w.0 (can_be_written bytes w.0 fits w.1) w.2)
+  where
+    good : (page : Page) → HasSpelling page → KeepsRules (meta_with meta.k meta.height meta.dcap meta.icap) page → IsGoodPage meta page
+    good (Live page) spelled keeps = (spelled, keeps)
+    good (Free next) spelled keeps = spelled
 
 -- the first rule that a page breaks by itself is one of those
 rule_of_page : (rule : ℕ) (page : LivePage) (meta : Meta) → BreaksFirst rule page meta → IsRuleOfPage rule

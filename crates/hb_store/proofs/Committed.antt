@@ -29,7 +29,7 @@ use Rattle.hb_store.specs.Parts.{ArePageImagesOf, IsDurable, IsInLog, IsInMemory
 use Rattle.hb_store.proofs.Facts.StoreLaws.{StoreKeeps-by}
 use Rattle.hb_store.specs.Calls.{Commits, IsAllowedHere, NoneComes, change_here, read_here, with_op}
 use Rattle.hb_store.specs.Making.{MakesWell, group_here}
-use Rattle.hb_store.specs.Committing.{CommitsHere}
+use Rattle.hb_store.specs.CommittedHere.{CommitsHere}
 use Rattle.hb_ops.proofs.Facts.SetPages.{set_not, all_set, set_both}
 use Rattle.hb_store.proofs.Facts.StayingLaws.{Commits-there}
 use Rattle.hb_store.proofs.Facts.Changed.{reads_numbered, same_size, still_stands}

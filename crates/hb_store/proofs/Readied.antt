@@ -12,7 +12,7 @@ use Rattle.hb_ops.specs.Operations.{OpHas, reads_of}
 use Rattle.hb_pool.specs.Frames.{Frame}
 use Rattle.hb_wal.specs.Log.{MayJoin}
 use Rattle.hb_store.specs.Calls.{IsAllowedHere, change_here, read_here}
-use Rattle.hb_store.specs.Committing.{MayCommit}
+use Rattle.hb_store.specs.CommittedHere.{CanCommit}
 use Rattle.hb_store.specs.Filling.{in_frame}
 use Rattle.hb_store.specs.Held.{StoreHeld}
 use Rattle.hb_store.specs.Making.{HasFittingParts, IsGoodChange, MakesGoodPages, MakesWell, group_here, page_images_needed, record_op}
@@ -53,7 +53,7 @@ pub record_parts : (page : ℕ) (point : List ℕ) (body : Option (List ℕ)) �
 record_parts page point (Some body) = tt
 record_parts page point None = tt
 
-module _ (makes : MakesGoodPages) (held : StoreHeld) (is : IsMemory held.state) (op : Op) (mark : ℕ) (may : MayCommit op mark held) (fits : (k : ℕ) → OpHas k op → FitsOp k op) where
+module _ (makes : MakesGoodPages) (held : StoreHeld) (is : IsMemory held.state) (op : Op) (mark : ℕ) (may : CanCommit op mark held) (fits : (k : ℕ) → OpHas k op → FitsOp k op) where
   abbrev now : StoreState
   now = held.state
 

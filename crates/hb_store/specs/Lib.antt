@@ -14,7 +14,7 @@ pub mod Switching
 pub mod Turning
 pub mod WritingHome
 pub mod Making
-pub mod Committing
+pub mod CommittedHere
 pub mod Fetching
 pub mod Replaying
 pub mod LogReading

@@ -5,7 +5,7 @@ ghost use Rattle.hb_ops.specs.Given.{given as live_given};
 ghost use Rattle.hb_ops.specs.Files.{FileState, if_live, last_of};
 ghost use Rattle.hb_ops.specs.Operations.{BoxesMatch, IsLicensed, OpHas, reads_of};
 ghost use Rattle.hb_log_codec.specs.Groups.{FitsGroup, group_bytes};
-ghost use Rattle.hb_store.specs.Committing.{CommitsHere, MayCommit};
+ghost use Rattle.hb_store.specs.CommittedHere.{CommitsHere, CanCommit};
 ghost use Rattle.hb_store.specs.Keeps.{StoreKeeps};
 ghost use Rattle.hb_store.specs.Making.{IsDoableHere, TakesMemory, group_here, record_op};
 ghost use Rattle.hb_store.specs.Seen.{seen_as, uses_of};
@@ -59,7 +59,7 @@ impl Memory {
     /// Does an operation on the pages in memory, and lets its group wait. For want of memory nothing changes; a put and a delete are
     /// never refused.
     pub(crate) fn commit(&mut self, alloc: Global, op: &Op, mark: u32) -> Result<(), NoMemory>
-        requires { MayCommit op.now mark self.old }
+        requires { CanCommit op.now mark self.old }
         ensures done { OnOk result (CommitsHere op.now mark self.old self.new) }
         ensures kept { OnErr result (self.new ≡ self.old) }
         ensures memory { OnErr result (TakesMemory op.now) }
@@ -82,7 +82,7 @@ impl Memory {
     /// Does an operation on records: a body is put at a point of the page's bytes, or taken from it. The page's image is of the page
     /// before that, so the group is the first.
     fn commit_record(&mut self, op: &Op, mark: u32, page: u32, point: &Point, body: Option<&Body>)
-        requires may { MayCommit op.now mark self.old }
+        requires may { CanCommit op.now mark self.old }
         requires record_op { op.now ≡ record_op page point.now (option_copied body) }
         ensures { CommitsHere op.now mark self.old self.new }
     {
@@ -105,7 +105,7 @@ impl Memory {
 
     /// Does an operation that makes other pages.
     fn commit_pages(&mut self, alloc: Global, op: &Op, mark: u32) -> Result<(), NoMemory>
-        requires { MayCommit op.now mark self.old }
+        requires { CanCommit op.now mark self.old }
         ensures done { OnOk result (CommitsHere op.now mark self.old self.new) }
         ensures kept { OnErr result (self.new ≡ self.old) }
     {

@@ -94,13 +94,17 @@ pub(crate) fn damaged(page: u32, rule: u8) -> FetchStop
     }
 }
 
-/// Whether these bytes spell a page that keeps the rules that speak of it alone.
+/// Whether these bytes spell a page that keeps the rules that speak of it alone. Most do, and that one walk over them tells; of
+/// others the passes that follow find the first rule that is broken.
 fn page_in(meta: &Meta, id: u32, bytes: &[u8]) -> Result<(), FetchStop>
     ensures good { OnOk result (IsSomeAnd (page_of_bytes bytes.now) (λ page. SpellsPage bytes.now page × IsGoodPage meta.now page)) }
     ensures why { IfErr result (HoldsNot meta.now (Some bytes.now) id) }
     ensures no_fault { IsErrOf result ReadFault → ⊥ }
     ensures placed { IsErrOf result Crowded → ⊥ }
 {
+    if PageView::well_made(bytes, meta.k, meta.height, meta.dcap, meta.icap) {
+        return Ok(());
+    }
     match PageView::checked(bytes) {
         Some(view) => good_page(meta, id, &view),
         None => Err(damaged(id, 0)),

@@ -33,7 +33,7 @@ pub(crate) fn add_all(in_log: &mut PageSet, ids: &[u32])
     }
 }
 
-/// PutsInto changed pages into frames under their numbers, in order, each dirty, and adds the numbers. It takes no memory.
+/// Puts changed pages into frames under their numbers, in order, each dirty, and adds the numbers. It takes no memory.
 pub(crate) fn put_all(pool: &mut Pool, in_log: &mut PageSet, pages: &[(u32, Page)])
     requires pool { IsPool pool.old }
     requires spelled { All (λ c. HasSpelling c.1) pages.now }
@@ -48,7 +48,7 @@ pub(crate) fn put_all(pool: &mut Pool, in_log: &mut PageSet, pages: &[(u32, Page
     }
 }
 
-/// PutsInto a page into its frame, or where it has none into a place that there is. It is dirty. It takes no memory.
+/// Puts a page into its frame, or where it has none into a place that there is. It is dirty. It takes no memory.
 fn put(pool: &mut Pool, id: u32, page: &Page)
     requires pool { IsPool pool.old }
     requires spelled { HasSpelling page.now }

@@ -25,10 +25,10 @@ fields_skipped (suc (suc zero) ∷ rest) = name_skipped _ rest
 fields_skipped (suc (suc (suc b)) ∷ rest) = refl
 
 -- what the fields and the zeros behind them make
-ending : Option (Page × List ℕ) → Option Page
+unfoldable pub ending : Option (Page × List ℕ) → Option Page
 ending o = o >>= λ x. cond (list_all (λ b. eqb b 0) x.1) (Some x.0) None
 
-whole : (bytes : List ℕ) → length bytes ≡ PAGE → page_of_bytes bytes ≡ ending (fields_at bytes)
+pub whole : (bytes : List ℕ) → length bytes ≡ PAGE → page_of_bytes bytes ≡ ending (fields_at bytes)
 unfolding page_of_bytes ending
 whole bytes long = rw (eq-eqb (length bytes) PAGE long) refl
 

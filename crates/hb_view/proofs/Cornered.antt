@@ -109,9 +109,12 @@ arent_in_order k i lo hi rl rh lt above =
 -- ---- boxes
 
 -- a box whose corners are read
-pub box_behind : (k : ℕ) (bytes lo hi middle rest : List ℕ) (b : Bool) → point_at k bytes ≡ Some (lo, middle) → point_at k middle ≡ Some (hi, rest) → b ≡ are_ordered lo hi → b ≡ true → behind (area_at k bytes) ≡ Some rest
+pub box_read : (k : ℕ) (bytes lo hi middle rest : List ℕ) (b : Bool) → point_at k bytes ≡ Some (lo, middle) → point_at k middle ≡ Some (hi, rest) → b ≡ are_ordered lo hi → b ≡ true → area_at k bytes ≡ Some (record { lo = lo; hi = hi }, rest)
 unfolding area_at
-box_behind k bytes lo hi middle rest b el eh test t = rw (el, eh, sym test ∙ t) refl
+box_read k bytes lo hi middle rest b el eh test t = rw (el, eh, sym test ∙ t) refl
+
+pub box_behind : (k : ℕ) (bytes lo hi middle rest : List ℕ) (b : Bool) → point_at k bytes ≡ Some (lo, middle) → point_at k middle ≡ Some (hi, rest) → b ≡ are_ordered lo hi → b ≡ true → behind (area_at k bytes) ≡ Some rest
+box_behind k bytes lo hi middle rest b el eh test t = ap (λ (o : Option (Area × List ℕ)). behind o) (box_read k bytes lo hi middle rest b el eh test t)
 
 pub box_disordered : (k : ℕ) (bytes lo hi middle rest : List ℕ) (b : Bool) → point_at k bytes ≡ Some (lo, middle) → point_at k middle ≡ Some (hi, rest) → b ≡ are_ordered lo hi → b ≡ false → behind (area_at k bytes) ≡ None
 unfolding area_at
@@ -135,6 +138,12 @@ point_room k bytes x e = elim (cases_lt (length bytes) (8 * k)) [
   | inl short ↦ let never : None ≡ Some x = sym (point_short k bytes short) ∙ e in absurd (let no_way : ⊥ = cc never in no_way)
   | inr le ↦ le
 ]
+
+pub point_shorter : (k : ℕ) (bytes : List ℕ) (x : List ℕ × List ℕ) → point_at k bytes ≡ Some x → length x.1 ≤ length bytes
+point_shorter k bytes x e =
+    let read = same_Some x (point_there k bytes, drop (8 * k) bytes) (sym e ∙ point_is k bytes (point_room k bytes x e)) in
+    let behind : length x.1 ≡ length (drop (8 * k) bytes) = ap (λ (y : List ℕ × List ℕ). length y.1) read in
+    omega (arith, behind, length-drop (8 * k) bytes)
 
 corners_of : (k : ℕ) (bytes : List ℕ) (x y : List ℕ × List ℕ) → point_at k bytes ≡ Some x → point_at k x.1 ≡ Some y → HasCorners k bytes (record { lo = x.0; hi = y.0 })
 corners_of k bytes x y ex ey =

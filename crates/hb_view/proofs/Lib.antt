@@ -15,3 +15,7 @@ pub mod Led
 pub mod PlacedAmong
 pub mod Spotted
 pub mod Replaced
+pub mod TakenWithin
+pub mod ListsPassed
+pub mod PassedOver
+pub mod Followed

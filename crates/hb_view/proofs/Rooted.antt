@@ -45,7 +45,7 @@ axis_behind k bytes x e =
     let g = when_some (ltb a.0.0 k) (Some a.0) x a.2 in
     sym (ap (λ (y : ℕ × List ℕ). y.1) (same_Some a.0 x g.1)) ∙ byte_behind bytes a.0 a.1
 
-count_behind : (k : ℕ) (bytes : List ℕ) (x : ℕ × List ℕ) → count_at k bytes ≡ Some x → x.1 ≡ drop 2 bytes
+pub count_behind : (k : ℕ) (bytes : List ℕ) (x : ℕ × List ℕ) → count_at k bytes ≡ Some x → x.1 ≡ drop 2 bytes
 unfolding count_at
 count_behind k bytes x e =
     let a = bind_some (number_at 2 bytes) (λ count. cond (ltb (length count.1) (count.0 * (8 * k + 1))) None (Some count)) x e in

@@ -10,3 +10,5 @@ pub mod Naming
 pub mod Seen
 pub mod Splicing
 pub mod Spots
+pub mod Within
+pub mod WellMade

@@ -1,11 +1,13 @@
 //! A box that becomes one of its sides, and itself again.
-ghost use Rattle.std.specs.Prelude.{◌≡◌, ◌<◌, length, slice_index, slice_set};
+ghost use Rattle.std.specs.Prelude.{◌≡◌, ◌<◌, ◌≤◌, length, slice_index, slice_set, IfSome};
 ghost use Rattle.hb_space.specs.Boxes.{Cuts, IsArea, side_below, side_from};
+ghost use Rattle.hb_page_codec.specs.Reading.{ReadsAs};
+ghost use Rattle.hb_page_codec.specs.ReadingFields.{area_at};
 ghost use Rattle.hb_view.specs.Seen.{area_seen};
 
-use crate::corners::{Corner, corner_at, from_place};
+use crate::corners::{Corner, corner_at, from_place, is_ordered, point_read};
 use crate::trees::Inside;
-use hb_space::{Area, Point};
+use hb_space::{Area, Attributes, Point};
 use std::marker::Model;
 
 /// A box as its corners, of which values may be changed.
@@ -36,6 +38,25 @@ impl Bounds {
             lo: corner_at(k, inside.corners),
             hi: corner_at(k, hi),
         }
+    }
+
+    /// The box of `k` attributes at the front of the bytes, and those behind it.
+    #[tactic(auto, unfolding(hb_page_codec::specs::ReadingFields::area_at))]
+    pub(crate) fn read(k: Attributes, bytes: &[u8]) -> Option<(Bounds, &[u8])>
+        ensures reads { ReadsAs (λ x. (x.0, x.1.now)) result (area_at k.number bytes.now) }
+        ensures same { IfSome result (λ x. length x.0.lo ≡ k.number) }
+        ensures shorter { IfSome result (λ x. length x.1.now ≤ length bytes.now) }
+    {
+        let (lo, middle) = point_read(k, bytes)?;
+        let (hi, rest) = point_read(k, middle)?;
+        if !is_ordered(k, lo, hi) {
+            return None;
+        }
+        let bounds = Bounds {
+            lo: corner_at(k, lo),
+            hi: corner_at(k, hi),
+        };
+        Some((bounds, rest))
     }
 
     /// The box as a value.

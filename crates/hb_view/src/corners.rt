@@ -24,7 +24,7 @@ pub(crate) fn from_place(bytes: &[u8], place: usize) -> &[u8]
 }
 
 /// A value of the point of `k` values that stands there.
-fn value_at(k: Attributes, bytes: &[u8], axis: usize) -> u64
+pub(crate) fn value_at(k: Attributes, bytes: &[u8], axis: usize) -> u64
     requires room { 8 * k.number ≤ length bytes.now }
     requires attribute { axis < k.number }
     ensures { result ≡ slice_index (point_there k.number bytes.now) axis }
@@ -77,7 +77,7 @@ pub(crate) fn compare(k: Attributes, bytes: &[u8], p: &[u64]) -> Ordering
 }
 
 /// Whether no value of the first of two points exceeds the second one's in the same attribute.
-fn is_ordered(k: Attributes, lo: &[u8], hi: &[u8]) -> bool
+pub(crate) fn is_ordered(k: Attributes, lo: &[u8], hi: &[u8]) -> bool
     requires lo { 8 * k.number ≤ length lo.now }
     requires hi { 8 * k.number ≤ length hi.now }
     ensures { result ≡ are_ordered (point_there k.number lo.now) (point_there k.number hi.now) }

@@ -6,7 +6,7 @@
 //!
 //! A view goes down one path. At a cut the left side begins behind the cut's value; the right side begins behind the left
 //! one, which is read over. Of a box on the way one value is changed, and given back behind the side. Only `page` wants
-//! memory, since it decodes.
+//! memory, since it decodes, and `records_in`, which copies records.
 //!
 //! Within the crate, a tree is a `TreeView`, a list of records a `ListView`, and a tree with its box an `Inside`: bytes of
 //! which it is known that one stands there. Making one tests nothing. A box on the way is a `Bounds`, which contracts see as
@@ -20,8 +20,9 @@
 //! `splice` changes a page where it stands: a body is put at a point, or taken from it. Contracts see it as the page that the
 //! bytes spell then.
 //!
-//! `checked` trusts no byte: it tests what `decode` tests, in one pass. The other calls know that the bytes spell a page,
-//! and read again only what they need.
+//! `checked` trusts no byte: it tests what `decode` tests, in one pass. `well_made` tests in one pass too what `checked` and
+//! `broken` test in six, since most pages that are read in are whole. The other calls know that the bytes spell a page, and
+//! read again only what they need.
 #![tactic(auto)]
 
 mod bounds;
@@ -30,6 +31,7 @@ mod broken;
 mod checking;
 mod corners;
 mod fields;
+mod gathering;
 mod heads;
 pub mod laws;
 mod leaves;
@@ -45,6 +47,7 @@ mod threads;
 mod trees;
 mod views;
 mod walking;
+mod well_made;
 
 pub use leaves::LeafView;
 pub use splicing::splice;

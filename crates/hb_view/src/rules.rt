@@ -13,7 +13,7 @@ use crate::roots::{Root, root_of};
 use crate::trees::{ListView, TreeView};
 
 /// Whether the plane cuts the box.
-fn cuts(bounds: &Bounds, axis: u8, value: u64) -> bool
+pub(crate) fn cuts(bounds: &Bounds, axis: u8, value: u64) -> bool
     ensures { IsTrue result ↔ Cuts bounds.now axis value }
 {
     let at = usize::from(axis);

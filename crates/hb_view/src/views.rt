@@ -1,7 +1,7 @@
 //! A page seen from its bytes.
 ghost use Rattle.std.specs.Prelude.{◌≡◌, ◌≤◌, ◌↔◌, length, IfOk, IfSome, IsNone, IsSome, IsTrue, MatchOption, None, option_map};
 ghost use Rattle.std.specs.List.{slice_get};
-ghost use Rattle.hb_space.specs.Boxes.{Holds};
+ghost use Rattle.hb_space.specs.Boxes.{Holds, IsArea};
 ghost use Rattle.hb_frag.specs.Grammar.{HasSpelling};
 ghost use Rattle.hb_frag.specs.Leaves.{first_named, leaf_at, leaves_of, siblings_of, weight_of, WellCut};
 ghost use Rattle.hb_ops.specs.Sound.{FitsFile, BreaksFirst};
@@ -11,18 +11,22 @@ ghost use Rattle.hb_page_codec.specs.ReadingPages.{page_of_bytes};
 ghost use Rattle.hb_frag.specs.declared.pages.Page.TheVariants.{Free as FreePage};
 ghost use Rattle.hb_view.specs.Naming.{CountsLeaf, first_child_box};
 ghost use Rattle.hb_view.specs.Views.{IsLive, IsLiveAnd, HasInside, ShowsLeaf, TellsBody};
+ghost use Rattle.hb_view.specs.Within.{TakesFound};
+ghost use Rattle.hb_view.specs.WellMade.{SpellWellMade};
 
 use crate::LeafView;
 use crate::boxes::leaf_in;
 use crate::broken::{Limits, first_broken};
 use crate::checking::spells;
+use crate::gathering::take_in;
 use crate::heads::{are_live, box_of, inside_of, level_of, next_of, page_of};
 use crate::naming::{leaf_of_place, named_in};
 use crate::trees::Inside;
 use crate::walking::{count_in, find_in, weigh};
+use crate::well_made::is_well_made;
 use hb_frag::Page;
 use hb_space::form::BMAX;
-use hb_space::{Area, NoMemory, Point};
+use hb_space::{Area, NoMemory, Point, Record};
 use std::alloc::Global;
 use std::marker::Model;
 
@@ -151,6 +155,28 @@ impl<'a> PageView<'a> {
         count_in(&self.inside().tree, p.values())
     }
 
+    /// Copies of the records that the box `at_hand` holds, out of the leaf whose own box holds the point, join those that were
+    /// found, in their order. The leaf's box comes back. `None`, and no record joins, where that leaf names a page.
+    ///
+    /// # Errors
+    ///
+    /// Memory was refused. Some of the copies may have joined.
+    pub fn records_in(
+        &self,
+        p: &Point,
+        at_hand: &Area,
+        found: &mut Vec<Record>,
+    ) -> Result<Option<Area>, NoMemory>
+        requires well_cut { IsLiveAnd self.now WellCut }
+        requires held { IsLiveAnd self.now (λ page. Holds page.area p.now) }
+        requires same { length at_hand.now.lo ≡ length p.now }
+        ensures takes { IfOk result (λ told. IsLiveAnd self.now
+            (λ page. TakesFound at_hand.now (leaf_at page p.now) found.old.items found.new.items told)) }
+        ensures area { IfOk result (λ told. IfSome told IsArea) }
+    {
+        take_in(&self.inside(), p, at_hand, found)
+    }
+
     /// The box of the first sibling leaf from the left that names the page. `None` where no sibling leaf does.
     pub fn sibling_area(&self, id: u32) -> Option<Area>
         requires { IsLiveAnd self.now WellCut }
@@ -199,5 +225,19 @@ impl<'a> PageView<'a> {
             icap,
         };
         first_broken(&self.inside(), self.level(), limits)
+    }
+
+    /// Whether the bytes spell a page that keeps the rules that speak of it alone, in such a file: one that is free, or of which
+    /// `broken` is `None`. Any bytes may be given. It reads over them once; what is wrong `checked` and `broken` tell.
+    pub fn well_made(bytes: &[u8], k: u8, height: u8, dcap: u16, icap: u16) -> bool
+        ensures { IsTrue result ↔ SpellWellMade (meta_with k height dcap icap) bytes.now }
+    {
+        let limits = Limits {
+            k,
+            height,
+            dcap,
+            icap,
+        };
+        is_well_made(bytes, limits)
     }
 }

@@ -3,6 +3,8 @@ use Rattle.hb_core.proofs.Running.Names.{◌≡◌, ℕ, ◌<◌, ◌++◌, List
 use Rattle.std.proofs.Common.{◌^◌}
 use Rattle.hb_activity.specs.declared.dropping.DropWhy.TheVariants as drops
 use Rattle.hb_core.specs.Moving.{placed}
+use Rattle.hb_store.specs.Making.{TakesMemory}
+use Rattle.std.specs.Option.{IsSomeAnd}
 use Rattle.hb_core.proofs.Running.MayPerform.{has_room, hold_after, may_commit_then, stands_after}
 use Rattle.hb_core.proofs.Running.RowsDone.{op_refused, row_done, row_refused}
 use Rattle.hb_core.proofs.Running.StandsElsewhere.{shown_length}
@@ -62,7 +64,7 @@ module _ {D : Type 0} (model : D → DiskModel) (x y : D) (c between : RunningCo
     row_may_join line is joins = subst (λ (s : RunningCore). length s.order < length s.lines) (sym rest) (has_room (model x) c m actor free may pages next row line is joins)
 
     module _ (z : D) (after : RunningCore) (then : z ≡ y) where
-      pub performed_halts : (halt : Halt) → (halt ≡ GivesUp drops.NoMemory) × IsSome next.op × (after ≡ between) → HaltsPinned m actor halt (model z) after
+      pub performed_halts : (halt : Halt) → (halt ≡ GivesUp drops.NoMemory) × IsSomeAnd next.op TakesMemory × (after ≡ between) → HaltsPinned m actor halt (model z) after
       performed_halts halt why = subst (λ (k : D). HaltsPinned m actor halt (model k) after) (sym then) (subst (λ (s : RunningCore). HaltsPinned m actor halt (model y) s) (sym why.2)
           (subst (λ (h : Halt). HaltsPinned m actor h (model y) between) (sym why.0) (subst (λ (k : D). HaltsPinned m actor (GivesUp drops.NoMemory) (model k) between) (sym same)
           (subst (λ (s : RunningCore). HaltsPinned m actor (GivesUp drops.NoMemory) (model x) s) (sym rest) (op_refused (model x) c m actor free may pages next row why.1)))))

@@ -1,5 +1,5 @@
 -- The first of a list that passes a test: where it stands, the list without it, and the list in which it is changed.
-use Rattle.std.proofs.Common.{◌≡◌, ℕ, suc, ◌+◌, ◌<◌, ◌≤◌, nat_lt, Bool, true, false, not, cond, List, [], ◌∷◌, length, get_or, All, Some, None, IsSome, refl, sym, ap, subst, ◌∙◌, arith}
+use Rattle.std.proofs.Common.{◌≡◌, ℕ, suc, ◌+◌, ◌<◌, ◌≤◌, Bool, true, false, not, cond, List, [], ◌∷◌, length, get_or, All, Some, None, IsSome, refl, sym, ap, subst, ◌∙◌, arith}
 use Rattle.std.specs.List.{remove, find, position, position_or_len, count_by, sum_by}
 use Rattle.std.specs.Option.{option_map, unwrap_or}
 use Rattle.std.specs.Set.{remove_key}
@@ -12,7 +12,6 @@ use Rattle.std.proofs.lemmas.List.Sums.{sum_by-cons, sum_by-set, get_or-le-sum_b
 use Rattle.std.proofs.lemmas.Map.Made.{sum_by-remove_key}
 use Rattle.std.proofs.lemmas.Option.{slice_get_within, get_or_from_slice_get}
 use Rattle.hb_lemmas.proofs.Booleans.{if_below}
-use Rattle.hb_lemmas.proofs.Options.{some_value}
 use Rattle.hb_pool.specs.Pools.{change_first}
 
 remove_later : {X : Type 0} (x : X) (xs : List X) (i : ℕ) → remove (x ∷ xs) (1 + i) ≡ x ∷ remove xs i
@@ -23,10 +22,6 @@ set_later x y xs i = let e : suc i ≡ 1 + i = omega arith in subst (λ n. set (
 
 get_later : {X : Type 0} (x d : X) (xs : List X) (i : ℕ) → get_or (x ∷ xs) (1 + i) d ≡ get_or xs i d
 get_later x d xs i = let e : suc i ≡ 1 + i = omega arith in subst (λ n. get_or (x ∷ xs) n d ≡ get_or xs i d) e refl
-
-cond_some : {A : Type 0} (b : Bool) (x y : A) → cond b (Some x) None ≡ Some y → x ≡ y
-cond_some true x y e = cc
-cond_some false x y e = absurd cc
 
 module _ {X : Type 0} (p : X → Bool) where
   -- it is taken out at its place
@@ -111,39 +106,12 @@ module _ {X : Type 0} (p : X → Bool) where
         | false ↦ λ counted off. let rest = none_counted xs off in omega (arith, counted, rest)
       ] (sum_by-cons (λ (y : X). cond (p y) 1 0) x xs) none
 
-  -- the place that a search gave
-  pub place_found : (xs : List X) (i : ℕ) → Some i ≡ position p xs → i ≡ position_or_len p xs
-  place_found xs i is = sym (cond_some (nat_lt (position_or_len p xs) (length xs)) (position_or_len p xs) i (sym is))
-
   pub no_place_found : (xs : List X) → None ≡ position p xs → length xs ≡ position_or_len p xs
   no_place_found xs =
       let most = prefix_len-le-length (λ x. not (p x)) xs in
       if_below (position_or_len p xs) (length xs) (λ b. None ≡ cond b (Some (position_or_len p xs)) None → length xs ≡ position_or_len p xs)
       (λ lt is. absurd cc)
       (λ le is. omega arith)
-
-  -- the place that a search of the same list gave, where one passes: it is within, and what is taken out there is the first
-  pub place_within : (xs seen : List X) (i : ℕ) → seen ≡ xs → i ≡ position_or_len p seen → IsSome (find p xs) → i < length seen
-  place_within xs seen i same at there =
-      let first = some_value (find p xs) there in
-      let within : position_or_len p seen < length seen = subst (λ ys. position_or_len p ys < length ys) (sym same) (first_within xs first.0 first.1) in
-      omega (arith, within, at)
-
-  pub taken_there : (xs seen : List X) (i : ℕ) (x : X) → seen ≡ xs → i ≡ position_or_len p seen → IsSome (find p xs) → x ≡ get_or xs i x → find p xs ≡ Some x
-  taken_there xs seen i x same at there taken =
-      let first = some_value (find p xs) there in
-      let place : i ≡ position_or_len p xs = at ∙ ap (position_or_len p) same in
-      let is : first.0 ≡ x = sym (first_there xs first.0 x first.1) ∙ ap (λ n. get_or xs n x) (sym place) ∙ sym taken in
-      first.1 ∙ ap (λ (y : X). Some y) is
-
-  pub left_there : (xs seen : List X) (i : ℕ) → seen ≡ xs → i ≡ position_or_len p seen → remove xs i ≡ remove_key p xs
-  left_there xs seen i same at = ap (remove xs) (at ∙ ap (position_or_len p) same) ∙ remove_first xs
-
-  pub changed_there : (change : X → X) (xs seen : List X) (i : ℕ) (x y : X) → seen ≡ xs → i ≡ position_or_len p seen → IsSome (find p xs) → x ≡ get_or xs i x → y ≡ change x → set xs i y ≡ change_first p change xs
-  changed_there change xs seen i x y same at there taken new =
-      let is = taken_there xs seen i x same at there taken in
-      let place : i ≡ position_or_len p xs = at ∙ ap (position_or_len p) same in
-      ap (set xs i) (new ∙ ap change taken) ∙ ap (λ n. set xs n (change (get_or xs n x))) place ∙ set_first change xs x (first_within xs x is)
 
 -- the first that passes one test is the first that passes another, if it passes that and no other does
 pub alone_first : {X : Type 0} (q p : X → Bool) (xs : List X) (x : X) → p x ≡ true → count_by p xs ≤ 1 → find q xs ≡ Some x → find p xs ≡ Some x

@@ -16,7 +16,7 @@ use Rattle.hb_pool.specs.declared.pools.TheConstants.{FRAMES}
 use Rattle.hb_pool.specs.Frames.{Frame, has_id, must_stay, may_go, fresh}
 use Rattle.hb_pool.specs.Pools.{frame_of, put_last, in_place, with_room, brought, places, IsPool, HaveWholePages}
 use Rattle.hb_pool.specs.Laws.{StaysPool, StaysPoolWithAnother, CountsPlaces, CountsPlacesWithAnother}
-use Rattle.hb_pool.specs.Kept.{PoolKeeps}
+use Rattle.hb_pool.specs.Kept.{FramesKeep}
 use Rattle.hb_pool.proofs.Facts.Firsts.{first_passes, first_there, first_within, length_without, count_without, length_changed, count_changed, All-changed, some_fails, none_counted, alone_first}
 
 -- one for a test that passes, and none for the other way round
@@ -146,7 +146,7 @@ left_whole pool whole = elim (nat_lt (length pool) FRAMES) as (λ b. HaveWholePa
 ]
 
 -- a page that is put last, and must stay there
-pub kept_last : (pool items : List (Frame (List ℕ))) (room taken spare held one : ℕ) (id : ℕ) (f g : Frame (List ℕ)) → PoolKeeps pool room spare held → frame_of pool id ≡ Some f → items ≡ remove_key (has_id id) pool ++ g ∷ [] → taken ≡ room → one ≡ cond (not (must_stay f)) 1 0 → g.id ≡ f.id → g.pins ≤ 255 → length g.bytes ≡ PAGE → must_stay g ≡ true → PoolKeeps items taken spare (held + one)
+pub kept_last : (pool items : List (Frame (List ℕ))) (room taken spare held one : ℕ) (id : ℕ) (f g : Frame (List ℕ)) → FramesKeep pool room spare held → frame_of pool id ≡ Some f → items ≡ remove_key (has_id id) pool ++ g ∷ [] → taken ≡ room → one ≡ cond (not (must_stay f)) 1 0 → g.id ≡ f.id → g.pins ≤ 255 → length g.bytes ≡ PAGE → must_stay g ≡ true → FramesKeep items taken spare (held + one)
 kept_last pool items room taken spare held one id f g old is new same_room counts same few_pins whole stays =
     let rest = remove_key (has_id id) pool in
     let long = length_without (has_id id) pool f is in
@@ -164,17 +164,8 @@ kept_last pool items room taken spare held one id f g old is new same_room count
           omega (arith, counted, less, more, counts, other);
     }
 
--- its room, once it is taken out
-pub room_to_put : (pool rest : List (Frame (List ℕ))) (room spare held id : ℕ) (f : Frame (List ℕ)) → PoolKeeps pool room spare held → frame_of pool id ≡ Some f → rest ≡ remove_key (has_id id) pool → length rest < room
-room_to_put pool rest room spare held id f old is left =
-    let long = length_without (has_id id) pool f is in
-    let same : length rest ≡ length (remove_key (has_id id) pool) = ap length left in
-    let few = old.pool.few in
-    let taken = old.taken in
-    omega (arith, long, same, few, taken)
-
 -- a frame that had to stay, changed in its place: it may go now, or not
-pub kept_changed : (pool items : List (Frame (List ℕ))) (room spare held one : ℕ) (id : ℕ) (change : Frame (List ℕ) → Frame (List ℕ)) (f : Frame (List ℕ)) → PoolKeeps pool room spare held → frame_of pool id ≡ Some f → items ≡ in_place id change pool → one ≡ cond (not (must_stay (change f))) 1 0 → (change f).id ≡ f.id → (change f).pins ≤ 255 → length (change f).bytes ≡ PAGE → must_stay f ≡ true → PoolKeeps items room spare (held - one)
+pub kept_changed : (pool items : List (Frame (List ℕ))) (room spare held one : ℕ) (id : ℕ) (change : Frame (List ℕ) → Frame (List ℕ)) (f : Frame (List ℕ)) → FramesKeep pool room spare held → frame_of pool id ≡ Some f → items ≡ in_place id change pool → one ≡ cond (not (must_stay (change f))) 1 0 → (change f).id ≡ f.id → (change f).pins ≤ 255 → length (change f).bytes ≡ PAGE → must_stay f ≡ true → FramesKeep items room spare (held - one)
 kept_changed pool items room spare held one id change f old is new counts same few_pins whole stayed = record {
   pool = subst IsPool (sym new) (in_place_pool pool id change f old.pool is same few_pins);
   pages = subst HaveWholePages (sym new) (All-changed (has_id id) IsWhole change pool f is old.pages whole);
@@ -189,7 +180,7 @@ kept_changed pool items room spare held one id change f old is new counts same f
 }
 
 -- such a frame is counted
-pub one_fits : (pool : List (Frame (List ℕ))) (room spare held one : ℕ) (id : ℕ) (f : Frame (List ℕ)) (b : Bool) → PoolKeeps pool room spare held → frame_of pool id ≡ Some f → must_stay f ≡ true → one ≡ cond b 1 0 → one ≤ held
+pub one_fits : (pool : List (Frame (List ℕ))) (room spare held one : ℕ) (id : ℕ) (f : Frame (List ℕ)) (b : Bool) → FramesKeep pool room spare held → frame_of pool id ≡ Some f → must_stay f ≡ true → one ≡ cond b 1 0 → one ≤ held
 one_fits pool room spare held one id f b old is stayed counts =
     let counted = old.counted in
     let less = count_without (has_id id) must_stay pool f is in
@@ -199,25 +190,10 @@ one_fits pool room spare held one id f b old is stayed counts =
 
 -- ---- a page that comes in
 
-pub room_there : (pool : List (Frame (List ℕ))) (room spare held : ℕ) → PoolKeeps pool room spare held → 0 < places pool → spare ≡ 0 → IsSome (find may_go pool)
+pub room_there : (pool : List (Frame (List ℕ))) (room spare held : ℕ) → FramesKeep pool room spare held → 0 < places pool → spare ≡ 0 → IsSome (find may_go pool)
 room_there pool room spare held old place none = let all = old.blocks in free_there pool place (omega arith)
 
--- a frame is empty exactly where there is a block to spare
-pub same_room : (pool : List (Frame (List ℕ))) (room spare held : ℕ) → PoolKeeps pool room spare held → cond (nat_lt 0 spare) pool (remove_key may_go pool) ≡ with_room pool
-same_room pool room spare held old =
-    let all = old.blocks in
-    if_below 0 spare (λ b. cond b pool (remove_key may_go pool) ≡ with_room pool)
-    (λ some. if_below (length pool) FRAMES (λ b. pool ≡ cond b pool (remove_key may_go pool)) (λ lt. refl) (λ le. absurd (omega arith)))
-    (λ none. if_below (length pool) FRAMES (λ b. remove_key may_go pool ≡ cond b pool (remove_key may_go pool)) (λ lt. absurd (omega arith)) (λ le. refl))
-
-pub room_to_bring : (pool left : List (Frame (List ℕ))) (room spare held : ℕ) → PoolKeeps pool room spare held → 0 < places pool → left ≡ with_room pool → length left < room
-room_to_bring pool left room spare held old place made =
-    let long = (left_over pool old.pool place).long in
-    let same : length left ≡ length (with_room pool) = ap length made in
-    let taken = old.taken in
-    omega (arith, long, same, taken)
-
-pub kept_brought : (pool items : List (Frame (List ℕ))) (room taken spare spared held one : ℕ) (id : ℕ) (bytes : List ℕ) (dirty : Bool) → PoolKeeps pool room spare held → frame_of pool id ≡ None → 0 < places pool → length bytes ≡ PAGE → items ≡ brought id bytes dirty pool → taken ≡ room → spared ≡ spare - 1 → one ≡ cond dirty 1 0 → PoolKeeps items taken spared (held + one)
+pub kept_brought : (pool items : List (Frame (List ℕ))) (room taken spare spared held one : ℕ) (id : ℕ) (bytes : List ℕ) (dirty : Bool) → FramesKeep pool room spare held → frame_of pool id ≡ None → 0 < places pool → length bytes ≡ PAGE → items ≡ brought id bytes dirty pool → taken ≡ room → spared ≡ spare - 1 → one ≡ cond dirty 1 0 → FramesKeep items taken spared (held + one)
 kept_brought pool items room taken spare spared held one id bytes dirty old absent place whole new same_room spares counts =
     let g : Frame (List ℕ) = fresh id bytes dirty in
     let left = with_room pool in

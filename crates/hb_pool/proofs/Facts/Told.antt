@@ -1,6 +1,6 @@
 -- The order of use is told without the pages' bytes.
-use Rattle.std.proofs.Common.{◌≡◌, ◌+◌, ◌-◌, ◌≤◌, nat_lt, Bool, true, false, cond, List, [], ◌∷◌, ◌++◌, length, map, All, Option, Some, None, refl, sym, ap, subst, ◌∙◌}
-use Rattle.std.specs.List.{find, count_by}
+use Rattle.std.proofs.Common.{◌≡◌, ◌+◌, ◌-◌, ◌≤◌, nat_lt, Bool, true, false, not, cond, List, [], ◌∷◌, ◌++◌, length, map, All, Option, Some, None, refl, sym, ap, subst, ◌∙◌}
+use Rattle.std.specs.List.{find, count_by, position_or_len}
 use Rattle.std.specs.Option.{option_map, option_to_list}
 use Rattle.std.specs.Set.{remove_key}
 use Rattle.std.proofs.lemmas.List.{map-append, length-map}
@@ -13,28 +13,32 @@ use Rattle.hb_pool.specs.Laws.{OrderOfBrought, OrderOfChanged, OrderTellsFrames}
 
 -- a list told by `h`, and a test of what is told
 module _ {X Y : Type 0} (h : X → Y) (q : Y → Bool) where
-  told_find : (xs : List X) → find q (map h xs) ≡ option_map h (find (λ x. q (h x)) xs)
+  pub told_find : (xs : List X) → find q (map h xs) ≡ option_map h (find (λ x. q (h x)) xs)
   told_find [] = refl
   told_find (x ∷ xs) = elim (q (h x)) as (λ b. cond b (Some (h x)) (find q (map h xs)) ≡ option_map h (cond b (Some x) (find (λ y. q (h y)) xs))) [
     | true ↦ refl
     | false ↦ told_find xs
   ]
 
-  told_removed : (xs : List X) → map h (remove_key (λ x. q (h x)) xs) ≡ remove_key q (map h xs)
+  pub told_place : (xs : List X) → position_or_len q (map h xs) ≡ position_or_len (λ x. q (h x)) xs
+  told_place [] = refl
+  told_place (x ∷ xs) = ap (λ n. cond (not (q (h x))) (1 + n) 0) (told_place xs)
+
+  pub told_removed : (xs : List X) → map h (remove_key (λ x. q (h x)) xs) ≡ remove_key q (map h xs)
   told_removed [] = refl
   told_removed (x ∷ xs) = elim (q (h x)) as (λ b. map h (cond b xs (x ∷ remove_key (λ y. q (h y)) xs)) ≡ cond b (map h xs) (h x ∷ remove_key q (map h xs))) [
     | true ↦ refl
     | false ↦ ap (λ ys. h x ∷ ys) (told_removed xs)
   ]
 
-  told_changed : (change : X → X) (same : Y → Y) → ((x : X) → h (change x) ≡ same (h x)) → (xs : List X) → map h (change_first (λ x. q (h x)) change xs) ≡ change_first q same (map h xs)
+  pub told_changed : (change : X → X) (same : Y → Y) → ((x : X) → h (change x) ≡ same (h x)) → (xs : List X) → map h (change_first (λ x. q (h x)) change xs) ≡ change_first q same (map h xs)
   told_changed change same alike [] = refl
   told_changed change same alike (x ∷ xs) = elim (q (h x)) as (λ b. map h (cond b (change x ∷ xs) (x ∷ change_first (λ y. q (h y)) change xs)) ≡ cond b (same (h x) ∷ map h xs) (h x ∷ change_first q same (map h xs))) [
     | true ↦ ap (λ y. y ∷ map h xs) (alike x)
     | false ↦ ap (λ ys. h x ∷ ys) (told_changed change same alike xs)
   ]
 
-  told_count : (xs : List X) → count_by q (map h xs) ≡ count_by (λ x. q (h x)) xs
+  pub told_count : (xs : List X) → count_by q (map h xs) ≡ count_by (λ x. q (h x)) xs
   told_count [] = refl
   told_count (x ∷ xs) =
       sum_by-cons (λ (y : Y). cond (q y) 1 0) (h x) (map h xs)

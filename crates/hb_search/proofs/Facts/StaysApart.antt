@@ -7,7 +7,7 @@ use Rattle.std.proofs.lemmas.List.Kept.{AllPairs-filter}
 use Rattle.hb_lemmas.proofs.Lists.{All-front, All-last, All-parts, All-one, filter_has}
 use Rattle.hb_lemmas.proofs.Pairs.{pairs_append, pairs_parts}
 use Rattle.hb_search.specs.Gathering.{boxes_then}
-use Rattle.hb_search.specs.SearchRows.{records_within}
+use Rattle.hb_view.specs.Within.{records_within}
 use Rattle.hb_frag.specs.Rules.{Differ}
 use Rattle.hb_search.specs.Searching.{IsGathering}
 use Rattle.hb_space.proofs.Facts.Boxes.{Holds-common_area, Holds-from_test, IsArea-common_area, Within-common_area, lo_held}

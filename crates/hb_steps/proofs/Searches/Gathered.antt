@@ -9,7 +9,7 @@ use Rattle.hb_space.specs.Boxes.{Disjoint}
 use Rattle.hb_steps.proofs.Machines.PieceBoxes.{pieces_are_boxes}
 use Rattle.hb_steps.proofs.Searches.SortedRecords.{filter_tells}
 use Rattle.hb_search.proofs.Facts.StaysApart.{stays_apart}
-use Rattle.hb_search.specs.SearchRows.{records_within}
+use Rattle.hb_view.specs.Within.{records_within}
 use Rattle.hb_frag.specs.Rules.{Differ}
 use Rattle.hb_lemmas.proofs.Pairs.{pairs_first, pairs_rest}
 

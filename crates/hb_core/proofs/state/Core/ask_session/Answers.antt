@@ -1,3 +1,5 @@
+use Rattle.std.proofs.Common.{ℕ, sym, subst}
+use Rattle.hb_steps.specs.AskingDeciders.{AsksPoint}
 use Rattle.std.proofs.lemmas.Result.{IfOk-weaker}
 use Rattle.hb_activity.specs.Deciding.{deed_of}
 use Rattle.hb_store.specs.Seen.{seen_as}
@@ -10,7 +12,7 @@ returns-then-is_walk-clause-row g c =
     point_back (seen_as c.args.self.now.store) c.args.state (number_of_row c.args.state c.args.wanted) c.page_of-id.result c.page_of-id.ensures (deed_of c.args.state c.walk_to_point.result) c.walk_to_point.ensures
 
 pub put_in_half-requires-clause-asks : goal.put_in_half-requires-clause-asks
-put_in_half-requires-clause-asks g c = (c.args.free, c.requires)
+put_in_half-requires-clause-asks g c = (c.args.free, subst (λ (id : ℕ). AsksPoint (seen_as c.args.self.now.store) c.args.state id c.args.free) (sym c.page_of-id.ensures) c.requires)
 
 pub returns-then-is_put-clause-row : goal.returns-then-is_put-clause-row
 returns-then-is_put-clause-row g c =

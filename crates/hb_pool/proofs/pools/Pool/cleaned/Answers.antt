@@ -1,38 +1,41 @@
-use Rattle.std.proofs.Common.{IsTrue, not, cond, refl, ap, ◌∙◌, arith}
-use Rattle.hb_lemmas.proofs.Options.{some_of_and, at_some_and}
-use Rattle.hb_pool.specs.Frames.{has_id, must_stay, clean}
+use Rattle.std.proofs.Common.{ℕ, IsTrue, not, cond, length, List, ap, ◌∙◌, arith}
+use Rattle.hb_lemmas.proofs.Options.{at_some_and, some_of_and}
+use Rattle.hb_pool.specs.Frames.{Frame, clean}
 use Rattle.hb_pool.specs.Pools.{frame_of}
-use Rattle.hb_pool.proofs.Facts.Firsts.{place_within, taken_there, changed_there}
-use Rattle.hb_pool.proofs.Facts.Pooled.{frame_page, frame_pins, kept_changed, one_fits, dirty_stays}
+use Rattle.hb_pool.specs.Slots.{framed, frames_in}
+use Rattle.hb_pool.proofs.Facts.Pooled.{frame_page, frame_pins, one_fits, dirty_stays}
+use Rattle.hb_pool.proofs.Facts.Slotted.{entry_there}
+use Rattle.hb_pool.proofs.Facts.Lodged.{number_within, lies_there, kept_in_place, frames_in_place}
 use Rattle.hb_pool.proofs.pools.Pool.cleaned.Goals as goal
+
+pub lies_in-place-requires : goal.lies_in-place-requires
+lies_in-place-requires c = entry_there c.self.inside.order c.self.inside.slots.items c.args.id (some_of_and (frame_of (frames_in c.self.inside.order c.self.inside.slots.items) c.args.id) (λ f. IsTrue f.dirty) (rw (← c.self.view_is) at c.requires))
 
 pub index_mut-written-requires : goal.index_mut-written-requires
 index_mut-written-requires c =
-    let there = some_of_and (frame_of c.self.inside.used.items c.args.id) (λ f. IsTrue f.dirty) (rw (← c.self.view_is) at c.requires) in
-    let within = place_within (has_id c.args.id) _ _ _ refl (rw (← c.self.view_is) at c.place-place.ensures) there in
-    omega (arith, within)
+    let lt = number_within c.self.inside.order c.self.inside.slots.items c.args.id c.lies_in-place.result c.self.invariant.each c.lies_in-place.ensures in
+    omega (arith, lt, c.self.inside.slots.ok.0)
 
 pub overflow_sub-self : goal.overflow_sub-self
 overflow_sub-self c =
-    let asked = rw (← c.self.view_is) at c.requires in
-    let there = some_of_and (frame_of c.self.inside.used.items c.args.id) (λ f. IsTrue f.dirty) asked in
-    let is = taken_there (has_id c.args.id) _ _ _ _ refl (rw (← c.self.view_is) at c.place-place.ensures) there c.index_mut-written.ensures.value in
-    let dirty = at_some_and (frame_of c.self.inside.used.items c.args.id) (λ f. IsTrue f.dirty) c.index_mut-written.result.now is asked in
-    one_fits _ _ _ _ _ _ _ _ c.self.invariant is (dirty_stays c.index_mut-written.result.now dirty) c.one_if.ensures
+    let lies = lies_there _ _ c.args.id _ c.index_mut-written.result.now c.self.invariant.each c.lies_in-place.ensures c.index_mut-written.ensures.value in
+    let asked = at_some_and (frame_of (frames_in c.self.inside.order c.self.inside.slots.items) c.args.id) (λ f. IsTrue f.dirty) (framed c.args.id c.index_mut-written.result.now) lies.frame (rw (← c.self.view_is) at c.requires) in
+    one_fits _ _ _ _ _ c.args.id _ _ c.self.invariant.frames lies.frame (dirty_stays (framed c.args.id c.index_mut-written.result.now) asked) c.one_if.ensures
 
 pub invariant_of-self : goal.invariant_of-self
 invariant_of-self c =
-    let asked = rw (← c.self.view_is) at c.requires in
-    let there = some_of_and (frame_of c.self.inside.used.items c.args.id) (λ f. IsTrue f.dirty) asked in
-    let is = taken_there (has_id c.args.id) _ _ _ _ refl (rw (← c.self.view_is) at c.place-place.ensures) there c.index_mut-written.ensures.value in
-    let dirty = at_some_and (frame_of c.self.inside.used.items c.args.id) (λ f. IsTrue f.dirty) c.index_mut-written.result.now is asked in
-    let few = frame_pins _ _ _ c.self.invariant.pool is in
-    kept_changed _ _ _ _ _ _ c.args.id clean c.index_mut-written.result.now c.self.invariant is
-    (changed_there (has_id c.args.id) clean _ _ _ _ _ refl (rw (← c.self.view_is) at c.place-place.ensures) there c.index_mut-written.ensures.value c.clean.ensures)
-    (c.one_if.ensures ∙ ap (λ b. cond (not b) 1 0) (c.must_stay.ensures ∙ ap must_stay c.clean.ensures))
-    refl (omega (arith, few)) (frame_page _ c.args.id c.index_mut-written.result.now c.self.invariant.pages is) (dirty_stays c.index_mut-written.result.now dirty)
+    let lies = lies_there _ _ c.args.id _ c.index_mut-written.result.now c.self.invariant.each c.lies_in-place.ensures c.index_mut-written.ensures.value in
+    let asked = at_some_and (frame_of (frames_in c.self.inside.order c.self.inside.slots.items) c.args.id) (λ f. IsTrue f.dirty) (framed c.args.id c.index_mut-written.result.now) lies.frame (rw (← c.self.view_is) at c.requires) in
+    let few = frame_pins _ c.args.id _ c.self.invariant.frames.pool lies.frame in
+    let made = c.clean.ensures c.args.id in
+    let same = ap (λ (f : Frame (List ℕ)). f.pins) made in
+    kept_in_place _ _ _ _ _ _ c.args.id _ c.index_mut-written.result.now c.clean.new.self clean c.self.invariant lies c.index_mut-written.ensures.value made
+    (c.one_if.ensures ∙ ap (λ b. cond (not b) 1 0) (c.must_stay.ensures c.args.id))
+    (omega (arith, few, same))
+    (ap (λ (f : Frame (List ℕ)). length f.bytes) made ∙ frame_page _ c.args.id (framed c.args.id c.index_mut-written.result.now) c.self.invariant.frames.pages lies.frame)
+    (dirty_stays (framed c.args.id c.index_mut-written.result.now) asked)
 
 pub returns : goal.returns
 returns c =
-    let there = some_of_and (frame_of c.self.inside.used.items c.args.id) (λ f. IsTrue f.dirty) (rw (← c.self.view_is) at c.requires) in
-    rw (← c.self.view_is) (changed_there (has_id c.args.id) clean _ _ _ _ _ refl (rw (← c.self.view_is) at c.place-place.ensures) there c.index_mut-written.ensures.value c.clean.ensures)
+    let lies = lies_there _ _ c.args.id _ c.index_mut-written.result.now c.self.invariant.each c.lies_in-place.ensures c.index_mut-written.ensures.value in
+    rw (← c.self.view_is) (frames_in_place _ _ c.args.id _ c.index_mut-written.result.now c.clean.new.self clean c.self.invariant.each lies c.index_mut-written.ensures.value (c.clean.ensures c.args.id))

@@ -1,16 +1,24 @@
-use Rattle.std.proofs.Common.{ℕ, ◌≡◌, List, Option, Some, IsTrue, sym, ap, subst, ◌∙◌}
-use Rattle.std.specs.List.{find}
-use Rattle.std.specs.Option.{IsSomeAnd}
-use Rattle.hb_pool.specs.Frames.{Frame}
-use Rattle.hb_pool.specs.Pools.{frame_of}
-use Rattle.hb_pool.proofs.Facts.Firsts.{first_passes}
-use Rattle.hb_pool.proofs.Facts.Pooled.{dirty_there}
+use Rattle.std.proofs.Common.{Some, get_or, sym, ◌∙◌}
+use Rattle.std.proofs.lemmas.Option.{slice_get-get_or, slice_get_past}
+use Rattle.hb_pool.specs.Slots.{frames_in}
+use Rattle.hb_pool.proofs.Facts.Leaving.{numbers_there, first_dirty_page, dirty_page_there}
 use Rattle.hb_pool.proofs.pools.Pool.oldest_dirty.Goals as goal
 
-pub returns-in-Some-clause-dirty : goal.returns-in-Some-clause-dirty
-returns-in-Some-clause-dirty c =
-    let found : find (λ (f : Frame (List ℕ)). f.dirty) c.self.inside.used.items ≡ Some c.in-Some.slot.now = sym (c.in-Some.ensures ∙ ap (λ (xs : List (Frame (List ℕ))). find (λ f. f.dirty) xs) c.as_slice.ensures.value) in
-    let there = dirty_there c.self.inside.used.items c.in-Some.slot.now c.self.invariant.pool found in
-    let same : frame_of c.self.inside.used.items c.id.result ≡ Some c.in-Some.slot.now = ap (frame_of c.self.inside.used.items) c.id.ensures ∙ there in
-    let Q : Option (Frame (List ℕ)) → Type 0 = λ o. IsSomeAnd o (λ f. IsTrue f.dirty) in
-    rw (← c.self.view_is) (subst Q (sym same) (first_passes (λ (f : Frame (List ℕ)). f.dirty) c.self.inside.used.items c.in-Some.slot.now found))
+pub first_dirty-place-requires : goal.first_dirty-place-requires
+first_dirty-place-requires c = numbers_there c.self.inside.order c.self.inside.slots.items c.deref.result.now c.slots.result.now c.self.invariant.each c.deref.ensures.value c.slots.ensures
+
+pub returns-then-place-ids-clause-first : goal.returns-then-place-ids-clause-first
+returns-then-place-ids-clause-first c =
+    rw (← c.self.view_is) (sym (slice_get-get_or c.ids-ids.result.now c.first_dirty-place.result 0 c.if-place-ids.true)
+    ∙ first_dirty_page c.self.inside.order c.self.inside.slots.items c.deref.result.now c.slots.result.now c.ids-ids.result.now c.first_dirty-place.result c.deref.ensures.value c.slots.ensures c.ids-ids.ensures.value c.first_dirty-place.ensures)
+
+pub returns-then-place-ids-clause-dirty : goal.returns-then-place-ids-clause-dirty
+returns-then-place-ids-clause-dirty c =
+    let is = first_dirty_page c.self.inside.order c.self.inside.slots.items c.deref.result.now c.slots.result.now c.ids-ids.result.now c.first_dirty-place.result c.deref.ensures.value c.slots.ensures c.ids-ids.ensures.value c.first_dirty-place.ensures in
+    rw (← c.self.view_is) (dirty_page_there (frames_in c.self.inside.order c.self.inside.slots.items) (Some (get_or c.ids-ids.result.now c.first_dirty-place.result 0)) c.self.invariant.frames.pool
+    (sym (slice_get-get_or c.ids-ids.result.now c.first_dirty-place.result 0 c.if-place-ids.true) ∙ is))
+
+pub returns-else-place-ids-clause-first : goal.returns-else-place-ids-clause-first
+returns-else-place-ids-clause-first c =
+    rw (← c.self.view_is) (sym (slice_get_past c.ids-ids.result.now c.first_dirty-place.result c.if-place-ids.false)
+    ∙ first_dirty_page c.self.inside.order c.self.inside.slots.items c.deref.result.now c.slots.result.now c.ids-ids.result.now c.first_dirty-place.result c.deref.ensures.value c.slots.ensures c.ids-ids.ensures.value c.first_dirty-place.ensures)

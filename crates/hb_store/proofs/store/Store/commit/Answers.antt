@@ -1,5 +1,5 @@
 use Rattle.std.proofs.lemmas.Result.{on_ok_weaker}
-use Rattle.hb_store.specs.Committing.{CommitsHere}
+use Rattle.hb_store.specs.CommittedHere.{CommitsHere}
 use Rattle.hb_store.proofs.Committed.{keeps_made, room_made}
 use Rattle.hb_store.proofs.store.Store.commit.Goals as goal
 

@@ -1,0 +1,256 @@
+-- The entries of a map behind those in front, which are of pages that went: where a page stands among them, and
+-- what they are once an entry was moved.
+use Rattle.std.proofs.Common.{◌≡◌, ℕ, zero, suc, ◌+◌, ◌-◌, ◌<◌, ◌≤◌, nat_eq, true, false, cond, List, [], ◌∷◌, ◌++◌, length, take, drop, get_or, map, insert, remove, slice_get, position, Some, None, IsSome, refl, sym, ap, subst, ◌∙◌, arith, ne_eqb}
+use Rattle.std.specs.List.{find, count_by, position_or_len, AllByRecursion, IsDistinct}
+use Rattle.std.specs.Map.{keys_of, lookup}
+use Rattle.std.specs.Option.{option_map, option_map_or, option_to_list}
+use Rattle.std.specs.Set.{remove_key}
+use Rattle.std.proofs.Math.Seq.{take-length, drop-length, drop-append-add}
+use Rattle.std.proofs.lemmas.Bool.{eq-eqb}
+use Rattle.std.proofs.lemmas.List.{append-nil, drop_all, drop-append-le, drop-drop, drop-take, get_or-drop, get_or-map, get_or-take, length-drop, length-map, length-take-le, take_all, take_more}
+use Rattle.std.proofs.lemmas.List.Edits.{length-remove}
+use Rattle.std.proofs.lemmas.List.Folds.{find_at}
+use Rattle.std.proofs.lemmas.List.Quantifiers.{position-Some}
+use Rattle.std.proofs.lemmas.List.Sums.{get_or-le-sum_by, sum_by-cons, sum_by-take-drop}
+use Rattle.std.proofs.lemmas.Map.Keys.{IsDistinct-head, IsDistinct-tail}
+use Rattle.std.proofs.lemmas.Option.{get_or_from_slice_get, slice_get-get_or, slice_get-map, slice_get_past, slice_get_within}
+use Rattle.hb_lemmas.proofs.Booleans.{if_below, if_same}
+use Rattle.hb_lemmas.proofs.Lists.{mapped_place}
+use Rattle.hb_lemmas.proofs.Options.{some_value}
+use borrow.Author.Tests.{eqb-true}
+use Rattle.indexmap.specs.IndexMap.{move_index, set_value_at}
+use Rattle.hb_pool.specs.Slots.{is_page, entry_of}
+use Rattle.hb_pool.proofs.Facts.Behind.{none_found, nowhere, only_place}
+use Rattle.hb_pool.proofs.Facts.Firsts.{no_place_found, none_counted, remove_first}
+use Rattle.hb_pool.proofs.Facts.Told.{told_count}
+
+-- ---- where a page stands
+
+-- the map's test of a key is the order's test of a page
+same_test : (id : ℕ) (e : ℕ × ℕ) → nat_eq id e.0 ≡ is_page id e
+same_test id e = if_same id e.0 (λ b. b ≡ is_page id e) (λ same. sym (eq-eqb e.0 id (sym same))) (λ other. sym (ne_eqb e.0 id (λ back. other (sym back))))
+
+none_counts : (k id : ℕ) (xs : List (ℕ × ℕ)) → k ≡ id → AllByRecursion (λ y. nat_eq k y ≡ false) (keys_of xs) → count_by (is_page id) xs ≡ 0
+none_counts k id [] same none = refl
+none_counts k id (x ∷ xs) same none =
+    let rest = none_counts k id xs same none.1 in
+    let off : is_page id x ≡ false = sym (same_test id x) ∙ ap (λ n. nat_eq n x.0) (sym same) ∙ none.0 in
+    sum_by-cons (λ (y : ℕ × ℕ). cond (is_page id y) 1 0) x xs ∙ (λ j. cond {A = ℕ} (off j) 1 0 + rest j)
+
+-- a page has one entry at most
+pub once_counted : (id : ℕ) (xs : List (ℕ × ℕ)) → IsDistinct nat_eq (keys_of xs) → count_by (is_page id) xs ≤ 1
+once_counted id [] distinct = omega arith
+once_counted id (x ∷ xs) distinct =
+    let rest = once_counted id xs (IsDistinct-tail nat_eq x.0 (keys_of xs) distinct) in
+    let counted = sum_by-cons (λ (y : ℕ × ℕ). cond (is_page id y) 1 0) x xs in
+    if_same x.0 id (λ b. count_by (is_page id) (x ∷ xs) ≡ cond b 1 0 + count_by (is_page id) xs → count_by (is_page id) (x ∷ xs) ≤ 1)
+    (λ same is. let none = none_counts x.0 id xs same (IsDistinct-head nat_eq x.0 (keys_of xs) distinct) in omega (arith, is, none))
+    (λ other is. omega (arith, is, rest)) counted
+
+pub once_behind : (id g : ℕ) (xs : List (ℕ × ℕ)) → IsDistinct nat_eq (keys_of xs) → count_by (is_page id) (drop g xs) ≤ 1
+once_behind id g xs distinct =
+    let once = once_counted id xs distinct in
+    let parts = sum_by-take-drop (λ (y : ℕ × ℕ). cond (is_page id y) 1 0) xs g in
+    omega (arith, once, parts)
+
+-- a key that is there, at its place
+key_there : (id : ℕ) (xs : List (ℕ × ℕ)) (place : ℕ) → Some place ≡ position (nat_eq id) (keys_of xs) → (d : ℕ × ℕ) → (place < length xs) × (is_page id (get_or xs place d) ≡ true)
+key_there id xs place is d =
+    let at = position-Some (nat_eq id) (keys_of xs) place d.0 (sym is) in
+    let long = length-map xs (λ e. e.0) in
+    let lt : place < length xs = omega (arith, at.0, long) in
+    (lt, sym (same_test id (get_or xs place d)) ∙ ap (nat_eq id) (sym (get_or-map (λ (e : ℕ × ℕ). e.0) xs place d d.0 lt)) ∙ at.1)
+
+-- behind the front it stands so many places earlier
+pub stands_behind : (id g : ℕ) (xs : List (ℕ × ℕ)) (place : ℕ) → IsDistinct nat_eq (keys_of xs) → Some place ≡ position (nat_eq id) (keys_of xs) → g ≤ place → place - g ≡ position_or_len (is_page id) (drop g xs)
+stands_behind id g xs place distinct is le =
+    let d : ℕ × ℕ = (0, 0) in
+    let at = key_there id xs place is d in
+    let long = length-drop g xs in
+    let same : get_or (drop g xs) (place - g) d ≡ get_or xs place d = get_or-drop g xs (place - g) d ∙ ap (λ n. get_or xs n d) (let e : g + (place - g) ≡ place = omega (arith, le) in e) in
+    only_place (is_page id) (drop g xs) (place - g) d (omega (arith, at.0, long, le)) (ap (is_page id) same ∙ at.1) (once_behind id g xs distinct)
+
+none_behind : (id g : ℕ) (xs : List (ℕ × ℕ)) → count_by (is_page id) (drop g xs) ≤ 0 → length (drop g xs) ≡ position_or_len (is_page id) (drop g xs)
+none_behind id g xs none = nowhere (is_page id) (drop g xs) (none_found (is_page id) (drop g xs) none)
+
+-- one that stands in front is in memory no longer
+pub stands_in_front : (id g : ℕ) (xs : List (ℕ × ℕ)) (place : ℕ) → IsDistinct nat_eq (keys_of xs) → Some place ≡ position (nat_eq id) (keys_of xs) → place < g → length (drop g xs) ≡ position_or_len (is_page id) (drop g xs)
+stands_in_front id g xs place distinct is lt =
+    let d : ℕ × ℕ = (0, 0) in
+    let f : ℕ × ℕ → ℕ = λ y. cond (is_page id y) 1 0 in
+    let at = key_there id xs place is d in
+    let within : place < length (take g xs) = if_below g (length xs) (λ b. place < length (take g xs))
+    (λ less. let long = length-take-le g xs (omega arith) in omega (arith, long, lt))
+    (λ le. let whole = ap length (take_all g xs le) in omega (arith, whole, at.0)) in
+    let most = get_or-le-sum_by f (take g xs) place d within in
+    let one : f (get_or (take g xs) place d) ≡ 1 = ap f (get_or-take g xs place d lt) ∙ ap (λ b. cond {A = ℕ} b 1 0) at.1 in
+    let parts = sum_by-take-drop f xs g in
+    let once = once_counted id xs distinct in
+    none_behind id g xs (omega (arith, most, one, parts, once))
+
+-- and so is one that the map lacks
+absent_counted : (id : ℕ) (xs : List (ℕ × ℕ)) → None ≡ position (nat_eq id) (keys_of xs) → count_by (is_page id) xs ≡ 0
+absent_counted id xs is =
+    let past = no_place_found (nat_eq id) (keys_of xs) is in
+    let none : find (nat_eq id) (keys_of xs) ≡ None = find_at (nat_eq id) (keys_of xs) ∙ slice_get_past (keys_of xs) (position_or_len (nat_eq id) (keys_of xs)) (omega (arith, past)) in
+    (λ j. count_by (λ (e : ℕ × ℕ). sym (same_test id e) j) xs) ∙ sym (told_count (λ (e : ℕ × ℕ). e.0) (nat_eq id) xs) ∙ none_counted (nat_eq id) (keys_of xs) none
+
+pub stands_nowhere : (id g : ℕ) (xs : List (ℕ × ℕ)) → None ≡ position (nat_eq id) (keys_of xs) → length (drop g xs) ≡ position_or_len (is_page id) (drop g xs)
+stands_nowhere id g xs is =
+    let none = absent_counted id xs is in
+    let parts = sum_by-take-drop (λ (y : ℕ × ℕ). cond (is_page id y) 1 0) xs g in
+    none_behind id g xs (omega (arith, none, parts))
+
+-- then it stands past the last, as the order is seen
+pub counted_as : (id : ℕ) (order seen : List (ℕ × ℕ)) (ids : List ℕ) → order ≡ seen → ids ≡ keys_of seen → length order ≡ position_or_len (is_page id) order → length ids ≡ position_or_len (is_page id) seen
+counted_as id order seen ids same is past =
+    ap length is ∙ length-map seen (λ (e : ℕ × ℕ). e.0) ∙ subst (λ (o : List (ℕ × ℕ)). length o ≡ position_or_len (is_page id) o) same past
+
+-- one whose number was seen at a place
+pub stands_there : (id : ℕ) (order : List (ℕ × ℕ)) (ids : List ℕ) (place : ℕ) → count_by (is_page id) order ≤ 1 → ids ≡ keys_of order → slice_get ids place ≡ Some id → place ≡ position_or_len (is_page id) order
+stands_there id order ids place once same at =
+    let e = mapped_place (λ (x : ℕ × ℕ). x.0) order place id (ap (λ xs. slice_get xs place) (sym same) ∙ at) in
+    only_place (is_page id) order place e.0 (slice_get_within order place e.0 e.1) (ap (is_page id) (get_or_from_slice_get order place e.0 e.0 e.1) ∙ eq-eqb e.0.0 id e.2) once
+
+-- a page that is in memory no longer, and has an entry, has it in front
+pub was_in_front : (id g : ℕ) (xs : List (ℕ × ℕ)) (place : ℕ) → IsDistinct nat_eq (keys_of xs) → Some place ≡ position (nat_eq id) (keys_of xs) → entry_of (drop g xs) id ≡ None → place < g
+was_in_front id g xs place distinct is none =
+    let past = nowhere (is_page id) (drop g xs) none in
+    let at = key_there id xs place is (0, 0) in
+    let long = length-drop g xs in
+    if_below place g (λ b. place < g) (λ lt. lt)
+    (λ le. let here = stands_behind id g xs place distinct is le in absurd (omega (arith, past, at.0, long, here, le)))
+
+-- ---- what a move leaves
+
+module _ {X : Type 0} where
+  removed_in_front : (g k : ℕ) (xs : List X) → k < g → k < length xs → drop (g - 1) (remove xs k) ≡ drop g xs
+  removed_in_front g k xs lt within =
+      let front = length-take-le k xs (omega (arith, within)) in
+      ap (λ n. drop n (take k xs ++ drop (suc k) xs)) (let e : g - 1 ≡ length (take k xs) + (g - 1 - k) = omega (arith, front, lt) in e)
+      ∙ drop-append-add (take k xs) (drop (suc k) xs) (g - 1 - k)
+      ∙ drop-drop (g - 1 - k) (suc k) xs
+      ∙ ap (λ n. drop n xs) (let e : suc k + (g - 1 - k) ≡ g = omega (arith, lt) in e)
+
+  removed_behind : (g i : ℕ) (xs : List X) → g + i ≤ length xs → drop g (remove xs (g + i)) ≡ remove (drop g xs) i
+  removed_behind g i xs le =
+      let front = length-take-le (g + i) xs le in
+      let rest : drop (suc (g + i)) xs ≡ drop (suc i) (drop g xs) = ap (λ n. drop n xs) (let e : suc (g + i) ≡ g + suc i = omega arith in e) ∙ sym (drop-drop (suc i) g xs) in
+      drop-append-le g (take (g + i) xs) (drop (suc (g + i)) xs) (omega (arith, front))
+      ∙ (λ j. drop-take g i xs j ++ rest j)
+
+  moved : (xs : List X) (from to : ℕ) (x : X) → slice_get xs from ≡ Some x → move_index xs from to ≡ insert (remove xs from) to x
+  moved xs from to x at = ap (λ o. option_map_or (λ y. insert (remove xs from) to y) o xs) at
+
+  -- what stands at a place behind the front
+  pub get_behind : (g i : ℕ) (xs : List X) (x : X) → slice_get (drop g xs) i ≡ Some x → slice_get xs (g + i) ≡ Some x
+  get_behind g i xs x at =
+      let within = slice_get_within (drop g xs) i x at in
+      let long = length-drop g xs in
+      slice_get-get_or xs (g + i) x (omega (arith, within, long)) ∙ ap (λ y. Some y) (sym (get_or-drop g xs i x) ∙ get_or_from_slice_get (drop g xs) i x x at)
+
+  -- it goes last
+  pub put_last_there : (xs : List X) (k last : ℕ) (x : X) → slice_get xs k ≡ Some x → last ≡ length xs - 1 → move_index xs k last ≡ remove xs k ++ x ∷ []
+  put_last_there xs k last x at end =
+      let within = slice_get_within xs k x at in
+      let long = length-remove xs k within in
+      let ys = remove xs k in
+      moved xs k last x at
+      ∙ ap (λ n. insert ys n x) (let e : last ≡ length ys = omega (arith, long, end) in e)
+      ∙ (λ j. take-length ys j ++ x ∷ drop-length ys j)
+
+  pub last_behind : (g i last : ℕ) (xs : List X) (x : X) → slice_get (drop g xs) i ≡ Some x → last ≡ length xs - 1 → drop g (move_index xs (g + i) last) ≡ remove (drop g xs) i ++ x ∷ []
+  last_behind g i last xs x at end =
+      let there = get_behind g i xs x at in
+      let within = slice_get_within xs (g + i) x there in
+      let long = length-remove xs (g + i) within in
+      ap (drop g) (put_last_there xs (g + i) last x there end)
+      ∙ drop-append-le g (remove xs (g + i)) (x ∷ []) (omega (arith, long, within))
+      ∙ ap (λ ys. ys ++ x ∷ []) (removed_behind g i xs (omega (arith, within)))
+
+  -- where it is last already
+  pub last_stays : (xs : List X) (i : ℕ) (x : X) → slice_get xs i ≡ Some x → length xs ≤ i + 1 → xs ≡ remove xs i ++ x ∷ []
+  last_stays xs i x at le =
+      let within = slice_get_within xs i x at in
+      sym (take_all (i + 1) xs le)
+      ∙ take_more xs i x within
+      ∙ ap (λ y. take i xs ++ y ∷ []) (get_or_from_slice_get xs i x x at)
+      ∙ ap (λ ys. ys ++ x ∷ []) (sym (append-nil (take i xs)))
+      ∙ ap (λ ys. (take i xs ++ ys) ++ x ∷ []) (sym (drop_all (suc i) xs (omega (arith, le))))
+
+  -- it goes to the front
+  pub gone_behind : (g i : ℕ) (xs : List X) (x : X) → slice_get (drop g xs) i ≡ Some x → drop (g + 1) (move_index xs (g + i) g) ≡ remove (drop g xs) i
+  gone_behind g i xs x at =
+      let there = get_behind g i xs x at in
+      let within = slice_get_within xs (g + i) x there in
+      let long = length-remove xs (g + i) within in
+      let ys = remove xs (g + i) in
+      let front = length-take-le g ys (omega (arith, long, within)) in
+      ap (drop (g + 1)) (moved xs (g + i) g x there)
+      ∙ ap (λ n. drop n (take g ys ++ x ∷ drop g ys)) (let e : g + 1 ≡ length (take g ys) + 1 = omega (arith, front) in e)
+      ∙ drop-append-add (take g ys) (x ∷ drop g ys) 1
+      ∙ removed_behind g i xs (omega (arith, within))
+
+  -- it comes back from there
+  pub back_behind : (g k : ℕ) (xs news : List X) (x : X) → k < g → g ≤ length xs → news ≡ remove xs k ++ x ∷ [] → drop (g - 1) news ≡ drop g xs ++ x ∷ []
+  back_behind g k xs news x lt le is =
+      let long = length-remove xs k (omega (arith, lt, le)) in
+      ap (drop (g - 1)) is
+      ∙ drop-append-le (g - 1) (remove xs k) (x ∷ []) (omega (arith, long, le))
+      ∙ ap (λ ys. ys ++ x ∷ []) (removed_in_front g k xs lt (omega (arith, lt, le)))
+
+-- the last entry gets another slot
+pub last_written : (front : List (ℕ × ℕ)) (n id old slot : ℕ) → n ≡ length front → set_value_at (front ++ (id, old) ∷ []) n slot ≡ front ++ (id, slot) ∷ []
+last_written front n id old slot at = ap (λ k. set_value_at (front ++ (id, old) ∷ []) k slot) at ∙ by front
+  where
+    by : (es : List (ℕ × ℕ)) → set_value_at (es ++ (id, old) ∷ []) (length es) slot ≡ es ++ (id, slot) ∷ []
+    by [] = refl
+    by (e ∷ es) = ap (λ fs. e ∷ fs) (by es)
+
+-- ---- an entry at its place
+
+-- the numbers of the slots tell that of the page's
+pub number_looked_up : (id : ℕ) (order : List (ℕ × ℕ)) (ns : List ℕ) (place : ℕ) → ns ≡ map (λ (e : ℕ × ℕ). e.1) order → place ≡ position_or_len (is_page id) order → slice_get ns place ≡ option_map (λ (e : ℕ × ℕ). e.1) (entry_of order id)
+number_looked_up id order ns place are at =
+    (λ j. slice_get (are j) (at j))
+    ∙ slice_get-map (λ (e : ℕ × ℕ). e.1) order (position_or_len (is_page id) order)
+    ∙ ap (option_map (λ (e : ℕ × ℕ). e.1)) (sym (find_at (is_page id) order))
+
+pub number_in_range : (id : ℕ) (order : List (ℕ × ℕ)) (ns : List ℕ) (place : ℕ) → ns ≡ map (λ (e : ℕ × ℕ). e.1) order → place ≡ position_or_len (is_page id) order → IsSome (entry_of order id) → place < length ns
+number_in_range id order ns place are at there =
+    let e = some_value (entry_of order id) there in
+    slice_get_within ns place e.0.1 (number_looked_up id order ns place are at ∙ ap (option_map (λ (x : ℕ × ℕ). x.1)) e.1)
+
+pub number_there : (id : ℕ) (order : List (ℕ × ℕ)) (ns : List ℕ) (place : ℕ) → ns ≡ map (λ (e : ℕ × ℕ). e.1) order → place ≡ position_or_len (is_page id) order → IsSome (entry_of order id) → option_map (λ (e : ℕ × ℕ). e.1) (entry_of order id) ≡ Some (get_or ns place 0)
+number_there id order ns place are at there =
+    sym (number_looked_up id order ns place are at) ∙ slice_get-get_or ns place 0 (number_in_range id order ns place are at there)
+
+pub place_in_range : (id : ℕ) (order : List (ℕ × ℕ)) (place : ℕ) → place ≡ position_or_len (is_page id) order → IsSome (entry_of order id) → place < length order
+place_in_range id order place at there =
+    let e = some_value (entry_of order id) there in
+    slice_get_within order place e.0 (ap (slice_get order) at ∙ sym (find_at (is_page id) order) ∙ e.1)
+
+-- it stands last
+pub touched : (id : ℕ) (order news : List (ℕ × ℕ)) (place : ℕ) → place ≡ position_or_len (is_page id) order → IsSome (entry_of order id) → ((e : ℕ × ℕ) → slice_get order place ≡ Some e → news ≡ remove order place ++ e ∷ []) → news ≡ remove_key (is_page id) order ++ option_to_list (entry_of order id)
+touched id order news place at there put =
+    let e = some_value (entry_of order id) there in
+    put e.0 (ap (slice_get order) at ∙ sym (find_at (is_page id) order) ∙ e.1)
+    ∙ ap (λ (o : List (ℕ × ℕ)). o ++ e.0 ∷ []) (ap (remove order) at ∙ remove_first (is_page id) order)
+    ∙ ap (λ o. remove_key (is_page id) order ++ option_to_list o) (sym e.1)
+
+-- ---- an entry of the map
+
+pub entry_at : (id : ℕ) (xs : List (ℕ × ℕ)) (place : ℕ) → Some place ≡ position (nat_eq id) (keys_of xs) → (old : ℕ) × (slice_get xs place ≡ Some (id, old))
+entry_at id xs place is =
+    let at = key_there id xs place is (0, 0) in
+    let e = get_or xs place (0, 0) in
+    (e.1, slice_get-get_or xs place (0, 0) at.0 ∙ ap (λ k. Some (k, e.1)) (eqb-true e.0 id at.1))
+
+-- what the map lacks it lacks without its front
+pub absent_behind : (id n : ℕ) (xs : List (ℕ × ℕ)) → lookup (nat_eq id) xs ≡ None → lookup (nat_eq id) (drop n xs) ≡ None
+absent_behind id zero xs none = none
+absent_behind id (suc n) [] none = refl
+absent_behind id (suc n) (x ∷ xs) none = elim (nat_eq id x.0) as (λ b. cond b (Some x.1) (lookup (nat_eq id) xs) ≡ None → lookup (nat_eq id) (drop n xs) ≡ None) [
+  | true ↦ λ is. absurd cc
+  | false ↦ λ rest. absent_behind id n xs rest
+] none
