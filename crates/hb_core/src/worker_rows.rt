@@ -1,6 +1,6 @@
 //! What a step asks the deciders of the poster and of the consolidator. Where a worker only moves on, its page is read where it lies;
 //! else the pages are decoded, which takes memory.
-ghost use Rattle.std.specs.Prelude.{◌≡◌, ◌↔◌, ℕ, Some, IsTrue, IfOk, OnErr};
+ghost use Rattle.std.specs.Prelude.{◌≡◌, ◌↔◌, ℕ, Option, Some, IsTrue, IfOk, OnErr};
 ghost use Rattle.hb_activity.specs.Deciding.{deed_of};
 ghost use Rattle.hb_consol.specs.Asks.{OnlyMovesToMerge};
 ghost use Rattle.hb_core.specs.CoreSeen.{core_seen};
