@@ -152,12 +152,7 @@ impl<D: Device> Core<D> {
     }
 
     /// What the decider of splits says of this activity.
-    fn part(
-        &self,
-        state: Activity,
-        id: u32,
-        free: Option<(u32, u32)>,
-    ) -> Result<Next, NoMemory>
+    fn part(&self, state: Activity, id: u32, free: Option<(u32, u32)>) -> Result<Next, NoMemory>
         requires halves { ¬ (IsSessionWalk state) }
         requires asks { AsksPoint (core_seen self.now).store state id free }
         ensures { IfOk result (λ next. (place : ℕ) → HasPointRow (core_seen self.now).store state id place (placed place (deed_of state next))) }

@@ -62,12 +62,7 @@ impl<D: Device> Core<D> {
     }
 
     /// What the poster's decider says of this activity.
-    fn post(
-        &self,
-        state: Activity,
-        id: u32,
-        free: Option<(u32, u32)>,
-    ) -> Result<Next, NoMemory>
+    fn post(&self, state: Activity, id: u32, free: Option<(u32, u32)>) -> Result<Next, NoMemory>
         requires { AsksPoster (core_seen self.now).store state id free }
         ensures { IfOk result (λ next. (place : ℕ) → HasPosterRow (core_seen self.now).store state id place (placed place (deed_of state next))) }
     {
@@ -80,7 +75,11 @@ impl<D: Device> Core<D> {
     }
 
     /// What a step of the consolidator comes to.
-    pub(crate) fn ask_merger(&self, state: Activity, wanted: Option<Wanted>) -> Result<Next, NoMemory>
+    pub(crate) fn ask_merger(
+        &self,
+        state: Activity,
+        wanted: Option<Wanted>,
+    ) -> Result<Next, NoMemory>
         requires { AsksMerger (core_seen self.now).store state (number_of_row state wanted) }
         ensures row { IfOk result (λ next. (place : ℕ) →
             HasMergerRow (core_seen self.now).store state (number_of_row state wanted) place (placed place (deed_of state next))) }
