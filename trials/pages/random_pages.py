@@ -132,13 +132,11 @@ def run(stdin):
 
 def build(out):
     """The program with optimisation, as trials/schedules/build_program.py builds those of schedules."""
-    sys.path.append(os.path.join(os.path.dirname(HERE), "schedules"))
-    import build_program
-    with tempfile.TemporaryDirectory() as top, tempfile.TemporaryDirectory() as folder:
+    sys.path.append(os.path.join(ROOT, "tools"))
+    import unproved
+    with tempfile.TemporaryDirectory() as top:
         copy_to(top)
-        build_program.tools(os.path.join(folder, "tools"), os.path.abspath(out))
-        build_program.build(top, "page_trial", os.path.join(folder, "tools"))
-    sys.exit(not os.path.exists(out))
+        sys.exit(unproved.build(top, "page_trial", os.path.abspath(out), is_fast=True))
 
 
 def hashed(text):

@@ -7,3 +7,4 @@ pub mod OneLeaf
 pub mod OneRecord
 pub mod GivenPages
 pub mod QueueParts
+pub mod TakenJobs

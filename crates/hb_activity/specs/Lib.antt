@@ -3,6 +3,7 @@ pub mod Walks
 pub mod Seen
 pub mod Holding
 pub mod Wanting
+pub mod Ahead
 pub mod BoxLocks
 pub mod Waiting
 pub mod Classes

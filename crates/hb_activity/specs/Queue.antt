@@ -1,6 +1,6 @@
 -- The jobs that wait, in the order in which they came.
-use Rattle.std.specs.Prelude.{◌≡◌, ◌≢◌, ◌⊎◌, ◌<◌, ◌≤◌, List, [], ◌∷◌, Contains, Option, Some, None, ◌++◌, Bool, true, false, length, All, AllPairs}
-use Rattle.hb_activity.specs.declared.waiting_jobs.TheConstants.{JOBS}
+use Rattle.std.specs.Prelude.{◌≡◌, ◌≢◌, ◌⊎◌, ◌+◌, ◌<◌, ◌≤◌, ℕ, drop, List, [], ◌∷◌, Contains, Option, Some, None, ◌++◌, Bool, true, false, length, All, AllPairs}
+use Rattle.hb_activity.specs.declared.waiting_jobs.TheConstants.{JOBS, ROOM}
 use Rattle.hb_activity.specs.declared.jobs.JobKind.{JobKind}
 use Rattle.hb_activity.specs.declared.jobs.JobKind.TheVariants.{Post, Merge}
 use Rattle.hb_activity.specs.declared.jobs.Job.{Job}
@@ -43,3 +43,10 @@ AddsJob job old new =
 abbrev pub AddsJobs : List Job → List Job → List Job → Type 0
 AddsJobs [] old new = new ≡ old
 AddsJobs (job ∷ rest) old new = (more : List Job) × AddsJob job old more × AddsJobs rest more new
+
+-- the jobs of a set, how many in front were taken, and for how many more there is room
+pub record JobsKeep (jobs : List Job) (taken spare : ℕ) : Type 0 where
+  pub within : taken ≤ length jobs
+  pub waiting : AreQueued (drop taken jobs)
+  -- no room got lost
+  pub room : ROOM ≤ length jobs + spare

@@ -3,7 +3,6 @@ ghost use Rattle.hb_ops.specs.Files.{if_live};
 ghost use Rattle.hb_view.specs.Views.{IsLive};
 
 use crate::Activity;
-use crate::walks::may_change;
 use hb_layout::Meta;
 use hb_view::PageView;
 
@@ -17,19 +16,6 @@ impl Activity {
         requires readable { CanLook self.now (if_live page) }
         ensures { result ≡ may_commit self.now meta.now (if_live page.entry) }
     {
-        match self {
-            Activity::SessionWalk { line, .. } => {
-                may_change(&line.command)
-                    && self
-                        .wanted(meta, page)
-                        .is_some_and(|wanted| wanted.level == 0)
-            }
-            Activity::SessionSplit { .. }
-            | Activity::SessionPut { .. }
-            | Activity::PosterGrow { .. }
-            | Activity::PosterAgain { .. }
-            | Activity::ConsolidatorDecide { .. } => true,
-            _ => false,
-        }
+        self.ahead(meta, page).may_commit
     }
 }

@@ -1,6 +1,7 @@
 ghost use Rattle.std.specs.Prelude.{◌≡◌, ◌+◌, ◌<◌, ◌↔◌, IsTrue};
 
 use hb_space::Point;
+use std::hash::{Hash, Hasher};
 
 /// What a worker is to do.
 #[derive(Clone, Copy, Debug, PartialEq, Eq)]
@@ -18,6 +19,23 @@ pub struct Job {
     pub kind: JobKind,
     pub level: u8,
     pub point: Point,
+}
+
+impl Hash for Job {
+    ghost use Rattle.std.specs.Prelude.{◌++◌};
+    ghost use Rattle.std.specs.Hash as fed;
+    ghost use Rattle.std.specs.Cmp.Rules.{hashing};
+    ghost use Rattle.std.proofs.Common.{rules};
+
+    ghost hash_input = { λ job. fed.u8 job.level ++ fed.slice fed.u64 job.point };
+
+    ghost respects_eq = { Prim.search (hashing, rules) };
+
+    // Both kinds hash alike, since few jobs of both wait at one point.
+    fn hash<H: Hasher>(&self, state: &mut H) {
+        self.level.hash(state);
+        self.point.values().hash(state);
+    }
 }
 
 impl Job {

@@ -11,6 +11,7 @@
 #![tactic(auto)]
 
 mod activities;
+mod ahead;
 mod box_locks;
 mod changing;
 mod corners;
@@ -28,6 +29,7 @@ mod walks;
 mod wanting;
 
 pub use activities::Activity;
+pub use ahead::Ahead;
 pub use box_locks::box_lock_for;
 pub use corners::corner_of;
 pub use deciding::{Fate, Next};

@@ -1,9 +1,9 @@
-ghost use Rattle.std.specs.Prelude.{◌≡◌, ◌-◌, IfSome, IsSome, Some};
+ghost use Rattle.std.specs.Prelude.{◌≡◌, ◌-◌, ℕ, List, IfSome, IsSome, Some};
 ghost use Rattle.std.specs.Option.{option_and_then, option_copied, option_map};
-ghost use Rattle.hb_activity.specs.Seen.{IsAhead, child_by, named_by};
-ghost use Rattle.hb_activity.specs.Wanting.{wanted_page, onward_at, child_of, HasLeafAt};
+ghost use Rattle.hb_activity.specs.Seen.{child_by, named_by, view_at};
+ghost use Rattle.hb_activity.specs.Wanting.{wanted_page, onward_at, child_of};
 ghost use Rattle.hb_ops.specs.Files.{if_live};
-ghost use Rattle.hb_view.specs.Views.{IsLive, IsLiveAnd};
+ghost use Rattle.hb_view.specs.Views.{IsLive};
 
 use crate::Activity;
 use crate::walks::session_mode;
@@ -36,37 +36,7 @@ impl Activity {
         requires readable { CanLook self.now (if_live page) }
         ensures { result ≡ wanted_of self.now meta.now (if_live page.entry) }
     {
-        match self {
-            Activity::SessionWalk { line, .. } => {
-                let (page, level) = self.next_page(meta, page)?;
-                Some(latch_wanted(page, level, session_mode(&line.command, level)))
-            }
-            Activity::PosterWalk { job, .. } | Activity::ConsolidatorWalk { job, .. } => {
-                let (page, level) = self.next_page(meta, page)?;
-                Some(latch_wanted(page, level, job.mode_at(level)))
-            }
-            Activity::PosterGrow { .. } => {
-                let level = meta.height.saturating_sub(1);
-                Some(latch_wanted(meta.root, level, Mode::Exclusive))
-            }
-            Activity::PosterChild { job, .. } | Activity::PosterAgain { job, .. } => {
-                let (child, level) = child_at(page, &job.point)?;
-                Some(latch_wanted(child, level, Mode::Shared))
-            }
-            Activity::PosterPromote { parent, .. } | Activity::ConsolidatorPromote { parent, .. } =>
-                { on_level(page, *parent, Mode::Exclusive) }
-            Activity::ConsolidatorScan { child, .. } => below_level(page, *child, Mode::Shared),
-            Activity::ConsolidatorTry { gone, .. } => on_level(page, *gone, Mode::Shared),
-            Activity::ConsolidatorKeep { keep, .. } => below_level(page, *keep, Mode::Exclusive),
-            Activity::ConsolidatorDecide { gone, .. } => below_level(page, *gone, Mode::Exclusive),
-            Activity::SessionIdle
-            | Activity::SessionSplit { .. }
-            | Activity::SessionPut { .. }
-            | Activity::SessionAwait { .. }
-            | Activity::PosterIdle
-            | Activity::ConsolidatorIdle
-            | Activity::Flusher => None,
-        }
+        self.ahead(meta, page).wanted
     }
 
     /// The point at whose leaf the next step looks, in the page that it looks into. `None` where
@@ -85,15 +55,64 @@ impl Activity {
         }
     }
 
-    // The next page of a walk, and its level.
-    fn next_page(&self, meta: &Meta, page: Option<PageView<'_>>) -> Option<(u32, u8)>
+    // The latch that the step wants, where it looks at a leaf of which this stands there.
+    pub(crate) fn wanted_at(
+        &self,
+        meta: &Meta,
+        page: Option<PageView<'_>>,
+        leaf: Option<LeafView>,
+    ) -> Option<Wanted>
         requires live { IfSome page IsLive }
-        requires readable { CanLook self.now (if_live page) }
+        requires seen { leaf ≡ view_at (if_live page) (looked_at self.now) }
+        ensures { result ≡ wanted_of self.now meta.now (if_live page.entry) }
+    {
+        match self {
+            Activity::SessionWalk { line, .. } => {
+                let (page, level) = self.next_page(meta, page, leaf)?;
+                Some(latch_wanted(page, level, session_mode(&line.command, level)))
+            }
+            Activity::PosterWalk { job, .. } | Activity::ConsolidatorWalk { job, .. } => {
+                let (page, level) = self.next_page(meta, page, leaf)?;
+                Some(latch_wanted(page, level, job.mode_at(level)))
+            }
+            Activity::PosterGrow { .. } => {
+                let level = meta.height.saturating_sub(1);
+                Some(latch_wanted(meta.root, level, Mode::Exclusive))
+            }
+            Activity::PosterChild { .. } | Activity::PosterAgain { .. } => {
+                let (child, level) = child_at(page, leaf)?;
+                Some(latch_wanted(child, level, Mode::Shared))
+            }
+            Activity::PosterPromote { parent, .. } | Activity::ConsolidatorPromote { parent, .. } =>
+                { on_level(page, *parent, Mode::Exclusive) }
+            Activity::ConsolidatorScan { child, .. } => below_level(page, *child, Mode::Shared),
+            Activity::ConsolidatorTry { gone, .. } => on_level(page, *gone, Mode::Shared),
+            Activity::ConsolidatorKeep { keep, .. } => below_level(page, *keep, Mode::Exclusive),
+            Activity::ConsolidatorDecide { gone, .. } => below_level(page, *gone, Mode::Exclusive),
+            Activity::SessionIdle
+            | Activity::SessionSplit { .. }
+            | Activity::SessionPut { .. }
+            | Activity::SessionAwait { .. }
+            | Activity::PosterIdle
+            | Activity::ConsolidatorIdle
+            | Activity::Flusher => None,
+        }
+    }
+
+    // The next page of a walk, and its level.
+    fn next_page(
+        &self,
+        meta: &Meta,
+        page: Option<PageView<'_>>,
+        leaf: Option<LeafView>,
+    ) -> Option<(u32, u8)>
+        requires live { IfSome page IsLive }
+        requires seen { IsSome (walk_held self.now) → leaf ≡ view_at (if_live page) (walk_point self.now) }
         ensures { result ≡ walk_next (walk_point self.now) (walk_held self.now) meta.now (if_live page.entry) }
     {
-        let point = self.walk_point()?;
+        let _ = self.walk_point()?;
         match self.walk_held() {
-            Some(_) => next_at(page, point),
+            Some(_) => next_at(page, leaf),
             None => Some((meta.root, meta.height.saturating_sub(1))),
         }
     }
@@ -124,33 +143,22 @@ fn below_level(page: Option<PageView<'_>>, id: u32, mode: Mode) -> Option<Wanted
     Some(latch_wanted(id, level, mode))
 }
 
-// The page that the leaf at the point names, and its level: a child is one level down, a sibling
-// on the same one.
-fn next_at(page: Option<PageView<'_>>, point: &Point) -> Option<(u32, u8)>
-    requires live { IfSome page IsLive }
-    requires inside { IfSome (if_live page) (λ page. HasLeafAt page point.now) }
-    ensures { result ≡ option_and_then (λ page. onward_at page point.now) (if_live page.entry) }
+// The page that the leaf names, and its level: a child is one level down, a sibling on the same one.
+fn next_at(page: Option<PageView<'_>>, leaf: Option<LeafView>) -> Option<(u32, u8)>
+    requires { IfSome page IsLive }
+    ensures { (p : List ℕ) → leaf ≡ view_at (if_live page.entry) (Some p) →
+        result ≡ option_and_then (λ page. onward_at page p) (if_live page.entry) }
 {
-    let page = page?;
-    named_by(leaf_of(&page, point), page.level())
+    named_by(leaf?, page?.level())
 }
 
-// The child that the leaf at the point names, and its level.
-fn child_at(page: Option<PageView<'_>>, point: &Point) -> Option<(u32, u8)>
-    requires live { IfSome page IsLive }
-    requires inside { IfSome (if_live page) (λ page. HasLeafAt page point.now) }
-    ensures { result ≡ option_and_then (λ page. child_of page point.now) (if_live page.entry) }
+// The child that the leaf names, and its level.
+fn child_at(page: Option<PageView<'_>>, leaf: Option<LeafView>) -> Option<(u32, u8)>
+    requires { IfSome page IsLive }
+    ensures { (p : List ℕ) → leaf ≡ view_at (if_live page.entry) (Some p) →
+        result ≡ option_and_then (λ page. child_of page p) (if_live page.entry) }
 {
-    let page = page?;
-    child_by(leaf_of(&page, point), page.level())
-}
-
-// The leaf at the point.
-fn leaf_of(page: &PageView<'_>, point: &Point) -> LeafView
-    requires { IsLiveAnd page.now (λ live. HasLeafAt live point.now) }
-    ensures { IsAhead page.now (Some point.now) result }
-{
-    page.leaf_at(point).0
+    child_by(leaf?, page?.level())
 }
 
 // What the leaf names in a page of the level.

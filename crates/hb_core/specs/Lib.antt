@@ -10,6 +10,7 @@ pub mod Taking
 pub mod Stopping
 pub mod Going
 pub mod Working
+pub mod Aiming
 pub mod Relied
 pub mod Between
 pub mod BetweenLaws

@@ -7,8 +7,11 @@ use Rattle.hb_set.specs.declared.commands.Reply.{Reply}
 use Rattle.hb_activity.specs.declared.activities.Activity.{Activity}
 use Rattle.hb_activity.specs.declared.activities.Activity.TheVariants as at
 use Rattle.hb_activity.specs.declared.wanting.Wanted.{Wanted}
-use Rattle.hb_store.specs.States.{in_memory}
-use Rattle.hb_steps.specs.Asking.{wanted_by}
+use Rattle.hb_store.specs.States.{StoreState, in_memory}
+use Rattle.hb_steps.specs.declared.asked_boxes.AskedBox.{AskedBox}
+use Rattle.hb_steps.specs.Asking.{asked_box, wanted_by}
+use Rattle.hb_core.specs.declared.aiming.Aim.{Aim}
+use Rattle.hb_core.specs.Aiming.{HasMany}
 use Rattle.hb_core.specs.CoreUpdates.{StandsAs}
 use Rattle.hb_steps.specs.KeptFits.{LineFits}
 use Rattle.hb_steps.specs.Looking.{MayLook}
@@ -51,23 +54,23 @@ pub record IsAtWork (d : DiskModel) (c : RunningCore) (who : ℕ) : Type 0 where
   pub actor : IsActor who
   pub may : (m : Machine) × MayStep d c m × (m.stop ≡ None) × IsWorking (m.activity who)
 
--- the page into which its step looks is there
-pub record MayLookFor (c : RunningCore) (who : ℕ) : Type 0 where
+-- it is at work, and the page into which its step looks is there
+pub record MayAim (c : RunningCore) (who : ℕ) : Type 0 where
   pub actor : IsActor who
-  pub look : (activity : Activity) → StandsAs c who activity → MayLook c.store activity
-
--- its row may be done, and wants this page
-pub record MayDoRow (d : DiskModel) (c : RunningCore) (who : ℕ) (page : Option Wanted) : Type 0 where
-  pub actor : IsActor who
-  pub may : (m : Machine) × MayStep d c m × MayWork m who
-  pub wanted : (m : Machine) → MayStep d c m → page ≡ wanted_by m who
-
--- that page is in memory, and is to be tested
-pub record MayTest (c : RunningCore) (who : ℕ) (wanted : Wanted) : Type 0 where
-  pub actor : IsActor who
-  pub there : IsSome (in_memory c.store wanted.page)
   pub working : (activity : Activity) → StandsAs c who activity → IsWorking activity
   pub look : (activity : Activity) → StandsAs c who activity → MayLook c.store activity
+
+-- its row may be done, and wants this page, with this box
+pub record MayDoRow (d : DiskModel) (c : RunningCore) (who : ℕ) (aim : Aim) : Type 0 where
+  pub actor : IsActor who
+  pub may : (m : Machine) × MayStep d c m × MayWork m who
+  pub wanted : (m : Machine) → MayStep d c m → aim.wanted ≡ wanted_by m who
+  pub asked : (m : Machine) → MayStep d c m → aim.asked ≡ asked_box (m.activity who) m.store
+
+-- that page is in memory, and the box that it is to have is one of the file's attributes
+pub record MayTest (st : StoreState) (wanted : Wanted) (asked : Option AskedBox) : Type 0 where
+  pub there : IsSome (in_memory st wanted.page)
+  pub many : HasMany st.meta.k asked
 
 -- it passed, and a number may be needed
 pub record MayNumber (d : DiskModel) (c : RunningCore) (who : ℕ) (page : Option Wanted) : Type 0 where

@@ -9,6 +9,7 @@
 //! Source of the idea: Lomet and Salzberg 1992, and Evangelidis, Lomet and Salzberg 1997.
 #![tactic(auto)]
 
+mod aiming;
 mod asking;
 mod between;
 pub mod between_laws;

@@ -3,15 +3,13 @@ ghost use Rattle.std.specs.Prelude.{◌≡◌, ◌⊎◌, ◌↔◌, ◌≤◌, 
 ghost use Rattle.hb_latch.specs.Tables.{IsGrantable, IsLeastInTheWay, mode_at};
 ghost use Rattle.hb_activity.specs.Classes.{hand_of};
 ghost use Rattle.hb_steps.specs.Acting.{DoesRow};
-ghost use Rattle.hb_activity.specs.Wanting.{may_commit};
 ghost use Rattle.hb_pool.specs.Pools.{places};
 ghost use Rattle.hb_store.specs.Calls.{HasPlaces, IsReady};
 ghost use Rattle.hb_store.specs.States.{in_memory};
-ghost use Rattle.hb_steps.specs.Asking.{looked_live};
 ghost use Rattle.hb_core.specs.CoreSeen.{core_seen, core_disk, ChangesBy};
 ghost use Rattle.hb_core.specs.Counting.{CountsPart};
 ghost use Rattle.hb_steps.specs.Machines.{Machine};
-ghost use Rattle.hb_core.specs.Moving.{StandsAs, number_of, with_order_of_use};
+ghost use Rattle.hb_core.specs.Moving.{number_of, with_order_of_use};
 ghost use Rattle.hb_steps.specs.Performing.{latches_held};
 ghost use Rattle.hb_core.specs.Pinning.{CanUnpin};
 ghost use Rattle.hb_steps.specs.Using.{page_wanted, pages_of, unpin_each};
@@ -21,8 +19,9 @@ ghost use Rattle.hb_disk.specs.Calls.{ReadsOnly};
 ghost use Rattle.hb_core.specs.Touching.{IsReadHalt, Touches};
 ghost use Rattle.hb_core.specs.Going.{IsWorking, MayWork};
 ghost use Rattle.hb_core.specs.Working.{Halts, HaltsPinned, HasCome, IsStop, MayStep};
-ghost use Rattle.hb_core.specs.Relied.{IsAtWork, MayDoRow, MayLookFor, MayNumber};
+ghost use Rattle.hb_core.specs.Relied.{IsAtWork, MayDoRow, MayNumber};
 
+use crate::aiming::Aim;
 use crate::halts::Halt;
 use crate::state::Core;
 use arrayvec::ArrayVec;
@@ -43,42 +42,29 @@ impl<D: Device> Core<D> {
         ensures touches { Touches (D.model (core_disk self.old)) (core_seen self.old) result (D.model (core_disk self.new)) (core_seen self.new) }
         ensures counts { CountsPart actor (core_seen self.old) (core_seen self.new) }
     {
-        let wanted = self.wanted(actor);
-        if let Some(by) = self.in_the_way(actor, wanted) {
+        let aim = self.aim(actor);
+        if let Some(by) = self.in_the_way(actor, aim.wanted) {
             return Outcome::Blocked { by };
         }
-        if self.is_unready(actor, wanted) {
+        if self.is_unready(&aim) {
             return self.flush(Outcome::Helped);
         }
         let line = self.line_in_hand(actor);
         let pins = self.held_pages(actor);
-        match self.do_row(actor, wanted, line, pins.as_slice()) {
+        match self.do_row(actor, &aim, line, pins.as_slice()) {
             Ok(outcome) => outcome,
             Err(Halt::GivesUp(why)) => self.give_up(actor, line, why, pins.as_slice()),
             Err(Halt::Stops(why)) => self.stop_for(why),
         }
     }
 
-    /// Whether the actor's next step may change the file, and log and memory aren't ready for a change; or there is no place for the
+    /// Whether a step that aims so may change the file, and log and memory aren't ready for a change; or there is no place for the
     /// page that it wants.
-    fn is_unready(&self, actor: Actor, wanted: Option<Wanted>) -> bool
-        requires { MayLookFor (core_seen self.now) actor }
-        ensures { (activity : _) → StandsAs (core_seen self.now) actor activity →
-            (IsTrue result ↔ ((IsTrue (may_commit activity (core_seen self.now).store.meta (looked_live (core_seen self.now).store activity))
-            × (¬ (IsReady (core_seen self.now).store × HasPlaces (core_seen self.now).uses)))
-            ⊎ ((places (core_seen self.now).uses ≡ 0) × IsSomeAnd wanted (λ w. in_memory (core_seen self.now).store w.page ≡ None)))) }
+    fn is_unready(&self, aim: &Aim) -> bool
+        ensures { IsTrue result ↔ ((IsTrue aim.now.may_commit × (¬ (IsReady (core_seen self.now).store × HasPlaces (core_seen self.now).uses)))
+            ⊎ ((places (core_seen self.now).uses ≡ 0) × IsSomeAnd aim.now.wanted (λ w. in_memory (core_seen self.now).store w.page ≡ None))) }
     {
-        self.changes_unready(actor) || self.is_crowded(wanted)
-    }
-
-    /// Whether the actor's next step may change the file, and log and memory aren't ready for a change.
-    fn changes_unready(&self, actor: Actor) -> bool
-        requires { MayLookFor (core_seen self.now) actor }
-        ensures { (activity : _) → StandsAs (core_seen self.now) actor activity →
-            (IsTrue result ↔ (IsTrue (may_commit activity (core_seen self.now).store.meta (looked_live (core_seen self.now).store activity))
-            × (¬ (IsReady (core_seen self.now).store × HasPlaces (core_seen self.now).uses)))) }
-    {
-        self.may_commit(actor) && !self.store.ready()
+        (aim.may_commit && !self.store.ready()) || self.is_crowded(aim.wanted)
     }
 
     /// Whether a page is wanted that isn't in memory, and there is no place for it.
@@ -105,11 +91,11 @@ impl<D: Device> Core<D> {
     fn do_row(
         &mut self,
         actor: Actor,
-        wanted: Option<Wanted>,
+        aim: &Aim,
         line: Option<u32>,
         pins: &[u32],
     ) -> Result<Outcome, Halt>
-        requires row { MayDoRow (D.model (core_disk self.old)) (core_seen self.old) actor wanted }
+        requires row { MayDoRow (D.model (core_disk self.old)) (core_seen self.old) actor aim.now }
         requires line { (m : Machine) → MayStep (D.model (core_disk self.old)) (core_seen self.old) m → line ≡ number_of (hand_of (m.activity actor)) }
         requires pins { (m : Machine) → MayStep (D.model (core_disk self.old)) (core_seen self.old) m → pins.now ≡ pages_of (latches_held m.store (m.activity actor)) }
         ensures done { IfOk result (λ outcome. (m : Machine) → MayStep (D.model (core_disk self.old)) (core_seen self.old) m → MayWork m actor →
@@ -121,11 +107,11 @@ impl<D: Device> Core<D> {
         ensures intact { IfErr result (λ halt. IsStop halt → (core_seen self.new).activities ≡ (core_seen self.old).activities) }
         ensures counts { CountsPart actor (core_seen self.old) (core_seen self.new) }
     {
-        self.bring(actor, wanted)?;
-        match self.row_there(actor, wanted, line, pins) {
+        self.bring(actor, aim)?;
+        match self.row_there(actor, aim.wanted, line, pins) {
             Ok(outcome) => Ok(outcome),
             Err(halt) => {
-                self.let_go(wanted);
+                self.let_go(aim.wanted);
                 Err(halt)
             }
         }

@@ -23,7 +23,6 @@ use Rattle.hb_point.specs.Asks.{CanHold, InsertsInto, MayAsk, MayPutThere, deed_
 use Rattle.hb_point.specs.Doing.{InsertsSome, PutsBy}
 use Rattle.hb_point.specs.SessionRows.{PointRow}
 use Rattle.hb_point.specs.SplitRows.{PutsInHalf, SplitsOrFull}
-use Rattle.hb_set.specs.declared.commands.Command.{Command}
 use Rattle.hb_set.specs.declared.commands.Command.TheVariants.{Insert}
 use Rattle.hb_set.specs.declared.commands.Reply.TheVariants as replies
 use Rattle.hb_set.specs.declared.scripts.Line.{Line}

@@ -57,10 +57,16 @@ fn put_into(line: Line, half: u32) -> Next
         NextIs result (Activity.SessionAwait line.number Reply.Done 0) (Some (Op.Put half rec)) [] TakesEffect }
 {
     let Line {
-        number, command, ..
+        number,
+        command,
+        ..
     } = line;
     match command {
-        Command::Insert(rec) => Next::takes_effect(number, Reply::Done, Some(Op::Put { page: half, rec })),
+        Command::Insert(rec) => Next::takes_effect(
+            number,
+            Reply::Done,
+            Some(Op::Put { page: half, rec }),
+        ),
         _ => unreachable!(),
     }
 }

@@ -3,6 +3,7 @@ pub mod Firsts
 pub mod Front
 pub mod Leaving
 pub mod Lodged
+pub mod Moves
 pub mod Others
 pub mod Pooled
 pub mod Slotted

@@ -20,6 +20,9 @@ use std::marker::Model;
 /// For how many keys the map has room: as many again as there are frames.
 pub const ROOM: usize = 256;
 
+// How many pages are looked at before the map is asked.
+const LATE: usize = 4;
+
 /// Pages in the order of use, the least recently used first, each with the number of its slot.
 #[derive(Drop)]
 pub(crate) struct Order {
@@ -143,7 +146,8 @@ impl Order {
         }
     }
 
-    // Where the page stands, or how many there are where it isn't in memory. Most often it is one of the last two.
+    // Where the page stands, or how many there are where it isn't in memory. A walk asks again for the few pages
+    // that it used last, so these are looked at first.
     fn place(&self, id: u32) -> usize
         ensures { result ≡ position_or_len (is_page id) self.now }
     {
@@ -171,16 +175,15 @@ impl Order {
     }
 }
 
-// Where the page stands, if it is one of the last two.
+// Where the page stands, if it is one of the last.
 fn late(ids: &[u32], id: u32) -> Option<usize>
     ensures { IfSome result (λ place. slice_get ids.now place ≡ Some id) }
 {
     let count = ids.len();
-    if 0 < count && ids[count - 1] == id {
-        return Some(count - 1);
-    }
-    if 1 < count && ids[count - 2] == id {
-        return Some(count - 2);
+    for back in 1..LATE + 1 {
+        if back <= count && ids[count - back] == id {
+            return Some(count - back);
+        }
     }
     None
 }

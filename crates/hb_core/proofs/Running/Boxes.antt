@@ -5,7 +5,8 @@ use Rattle.hb_frag.proofs.Facts.Tiles.{first_tells}
 use Rattle.hb_frag.specs.Leaves.{WellCut}
 use Rattle.hb_view.specs.Views.{IsLive}
 use Rattle.hb_activity.specs.declared.activities.Activity.TheVariants as at
-use Rattle.hb_core.proofs.Running.LeafBoxes.{HasMany, child_many, place_many, sibling_many}
+use Rattle.hb_core.specs.Aiming.{HasMany}
+use Rattle.hb_core.proofs.Running.LeafBoxes.{child_many, place_many, sibling_many}
 use Rattle.hb_steps.proofs.Files.FitOps.{live_good}
 
 module _ (st : StoreState) (memory : IsMemory st) where
@@ -35,7 +36,7 @@ module _ (st : StoreState) (memory : IsMemory st) where
   of_whole : length {A = ℕ} (replicate st.meta.k 0) ≡ st.meta.k
   of_whole = length-replicate st.meta.k 0
 
-  asks_many : (activity : Activity) → IsWorking activity → MayLook st activity → HasMany st.meta.k (asked_box activity st)
+  pub asks_many : (activity : Activity) → IsWorking activity → MayLook st activity → HasMany st.meta.k (asked_box activity st)
   asks_many (at.SessionWalk line None rest found) working look = of_whole
   asks_many (at.SessionWalk line (Some held) rest found) working look = in_page_of held (goal_of line.command rest) (live_here st held) refl look.readable
   asks_many (at.SessionSplit line held) working look = of_whole
@@ -59,18 +60,10 @@ module _ (st : StoreState) (memory : IsMemory st) where
   as_many_by page many None has = tt
   as_many_by page many (Some asked) has = has ∙ sym many
 
-  -- and as the page that is tested
-  as_many_as : (activity : Activity) (id : ℕ) (page : LivePage) (o : Option AskedBox) → IsWorking activity → MayLook st activity → in_memory st id ≡ Some (Live page) → o ≡ asked_box activity st
-      → IfSome o (λ asked. length asked.area.lo ≡ length page.area.lo)
-  as_many_as activity id page o working look there is =
-      let good : IsGoodPage st.meta (Live page) = (memory.good id (Live page) there).2 in
-      as_many_by page good.1.fits.attributes o (subst (HasMany st.meta.k) (sym is) (asks_many activity working look))
-
-  -- which is told from its bytes
-  pub as_many_in : (activity : Activity) (id : ℕ) (v : Page) (o : Option AskedBox) → IsWorking activity → MayLook st activity → Some v ≡ in_memory st id → o ≡ asked_box activity st
-      → IfSome (if_live (Some v)) (λ page. IfSome o (λ asked. length asked.area.lo ≡ length page.area.lo))
-  as_many_in activity id (Live page) o working look there is = as_many_as activity id page o working look (sym there) is
-  as_many_in activity id (Free next) o working look there is = tt
+  -- and as the page that is tested, which is told from its bytes
+  pub as_many_in : (id : ℕ) (v : Page) (o : Option AskedBox) → HasMany st.meta.k o → Some v ≡ in_memory st id → IfSome (if_live (Some v)) (λ page. IfSome o (λ asked. length asked.area.lo ≡ length page.area.lo))
+  as_many_in id (Live page) o has there = as_many_by page (memory.good id (Live page) (sym there)).2.1.fits.attributes o has
+  as_many_in id (Free next) o has there = tt
 
   -- Every cut of a page in use cuts its box.
   pub cut_well : (id : ℕ) (v : Page) → Some v ≡ in_memory st id → IsLive v → IsLiveAnd v WellCut

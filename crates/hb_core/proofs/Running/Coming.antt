@@ -1,17 +1,20 @@
 -- The wanted page comes and is the one that was asked for, or the step halts.
-use Rattle.hb_core.proofs.Running.Names.{◌≡◌, ◌≢◌, ◌⊎◌, inl, inr, ℕ, false, List, [], ◌∷◌, Option, Some, None, IfSome, IsTrue, refl, sym, ap, ◌∙◌, subst, arith, ◌<◌, option_and_then, option_map, All-head, same_Some, DiskModel, Leaf, Records, Child, Sibling, LivePage, Page, Live, Placed, leaf_at, Mode, Shared, Exclusive, IsActor, Meta, at_value, has_value, if_value, not_none, live_so, FileState, last_of, IsSound, Area, Wanted, Activity, goal_of, job_mode, session_mode, child_of, in_mode, named_child, walk_next, wanted_page, names_child, Fetched, StaysHere, use_fetched, Breaks, FetchesNot, IsCrowdedOut, IsNoPage, LooksUp, StoreKeeps, IsMemory, StoreState, in_memory, FetchStop, Why, Rule, Level, Extent, Halt, Stops, files_hold, more_number, brings_none, LacksNeeded, MayNeed, AskedBox, around_box, asked_box, box_at, box_by_leaf, box_of_child, box_of_place, box_of_sibling, this_box, wanted_by, whole_box, Brings, IsWantedPage, HasSoundFile, NamesKnown, merging_at, MayLook, wanted_in, StandsAs, with_order_of_use, with_store, page_wanted, unpin_each, use_wanted, Use, pinned, unpinned, frame_of, in_place, places, put_last, IsTied, Files, Machine, current_file, live_here, modes, with_disk, with_uses, same_held, IsAtHand, RunningCore, ShowsMachine, IsHaltOf, IsWorking, MayWork, HasCome, Halts, IsHalt, MayStep}
+use Rattle.hb_core.proofs.Running.Names.{◌≡◌, ◌≢◌, ◌⊎◌, inl, inr, ℕ, false, List, [], ◌∷◌, Option, Some, None, IfSome, IsTrue, refl, sym, ap, ◌∙◌, subst, arith, ◌<◌, option_and_then, option_map, All-head, same_Some, DiskModel, Leaf, Records, Child, Sibling, LivePage, Page, Live, Placed, leaf_at, Mode, Shared, Exclusive, IsActor, Meta, at_value, has_value, if_value, not_none, live_so, FileState, last_of, IsSound, Area, Wanted, Activity, goal_of, job_mode, session_mode, child_of, in_mode, named_child, walk_next, wanted_page, names_child, Fetched, StaysHere, use_fetched, Breaks, FetchesNot, IsCrowdedOut, IsNoPage, LooksUp, StoreKeeps, IsMemory, StoreState, in_memory, FetchStop, Why, Rule, Level, Extent, Halt, Stops, files_hold, more_number, brings_none, LacksNeeded, MayNeed, AskedBox, around_box, asked_box, box_at, box_by_leaf, box_of_child, box_of_place, box_of_sibling, this_box, wanted_by, whole_box, Brings, IsWantedPage, HasSoundFile, NamesKnown, merging_at, wanted_in, with_order_of_use, with_store, page_wanted, unpin_each, use_wanted, Use, pinned, unpinned, frame_of, in_place, places, put_last, IsTied, Files, Machine, current_file, live_here, modes, with_disk, with_uses, same_held, IsAtHand, RunningCore, ShowsMachine, IsHaltOf, IsWorking, MayWork, HasCome, Halts, IsHalt, MayStep, with_memory}
 use Rattle.std.specs.Option.{IsSomeAnd, MatchOption}
 use Rattle.hb_activity.specs.declared.activities.Activity.TheVariants as at
 use Rattle.hb_activity.specs.Wanting.{named_page}
 use Rattle.hb_store.specs.declared.stops.FetchStop.TheVariants as fetches
 use Rattle.hb_store.specs.declared.stops.StopWhy.TheVariants as stops
 use Rattle.hb_steps.proofs.Files.SoundFiles.{current_sound}
+use Rattle.hb_core.specs.Aiming.{HasMany}
+use Rattle.hb_core.proofs.Running.Boxes.{asks_many}
 use Rattle.hb_core.proofs.Running.Brought.{brings_wider, fetch_brings, shows_store}
 use Rattle.hb_core.proofs.Running.Frames.{may_pin, shown_stays, shown_tied}
+use Rattle.hb_core.proofs.Running.LineTaken.{own_memory}
 use Rattle.hb_core.proofs.Running.Pins.{one_itself, pinned_frame, tied_unpinned}
 use Rattle.hb_core.proofs.Running.LeafBoxes.{Asks, child_asks_there, place_asks_there, sibling_asks_there}
-use Rattle.hb_core.proofs.Running.Looks.{may_look, names_stay, wants_same}
-use Rattle.hb_core.proofs.Running.StandsElsewhere.{shows_but, stands_as}
+use Rattle.hb_core.proofs.Running.Looks.{asks_same, may_look, names_stay, wants_same}
+use Rattle.hb_core.proofs.Running.StandsElsewhere.{shows_but}
 use Rattle.hb_steps.specs.Acting.{IsBadWanted}
 use Rattle.hb_steps.specs.AskedBoxes.{IsNotAsked}
 use Rattle.hb_steps.specs.Fetching.{IsDamaged}
@@ -126,6 +129,17 @@ module _ (m : Machine) (d : DiskModel) (c : RunningCore) (actor : ℕ) (latches 
   abbrev activity : Activity
   activity = m.activity actor
 
+  -- no page is wanted
+  pub none_comes : None ≡ wanted_by m actor → HasCome m actor d c
+  none_comes none = record {
+    may = work;
+    brings = brings_none m (IsWantedPage (wanted_by m actor)) c.store step.shows.store;
+    shows = subst (ShowsMachine d c) (sym (own_memory c m step.shows.store step.shows.uses)) step.shows;
+    at_hand = subst (λ (o : Option Wanted). IfSome o (λ wanted. (page : LivePage) × IsAtHand (with_memory c m) (m.activity actor) wanted page)) none tt;
+    uses = sym step.shows.uses ∙ ap (λ (o : Option Wanted). use_wanted o m.uses) none;
+    tied = shown_tied d c m step;
+  }
+
   module _ (wanted : Wanted) (wants : wanted_by m actor ≡ Some wanted) where
     needs_it : (st : StoreState) (id : ℕ) → id ≡ wanted.page → MayNeed m actor st id
     needs_it st id same = inl (subst (λ (o : Option Wanted). IsWantedPage o id) (sym wants) same)
@@ -206,9 +220,12 @@ module _ (m : Machine) (d : DiskModel) (c : RunningCore) (actor : ℕ) (latches 
       brings_it : Brings m (λ id. id ≡ wanted.page) st
       brings_it = looked_brings d e c m step failed st looks wanted.page memory fetched stays
 
-      -- so that the core may look for the box
-      pub looks_as : (stands : Activity) → StandsAs c actor stands → MayLook st stands
-      looks_as stands is = subst (MayLook st) (stands_as d c m actor stands latches step.shows is) (may_look m actor latches work.goes_on.kept (λ id. id ≡ wanted.page) st brings_it)
+      -- the box that was asked for before is still
+      pub asks_then : (asked : Option AskedBox) → asked ≡ asked_box activity m.store → asked ≡ asked_box activity st
+      asks_then asked is = is ∙ sym (asks_same m actor latches work.goes_on.kept (λ id. id ≡ wanted.page) st brings_it)
+
+      pub many_then : (asked : Option AskedBox) → asked ≡ asked_box activity m.store → HasMany st.meta.k asked
+      many_then asked is = subst (HasMany st.meta.k) (sym (asks_then asked is)) (asks_many st memory activity work.working (may_look m actor latches work.goes_on.kept (λ id. id ≡ wanted.page) st brings_it))
 
       wants_then : wanted_in st activity ≡ Some wanted
       wants_then = wants_same m actor latches work.goes_on.kept (λ id. id ≡ wanted.page) st brings_it ∙ wants

@@ -8,13 +8,11 @@ use Rattle.hb_steps.proofs.Files.AskedPages.{first_box_among, named_with_box, le
 use Rattle.hb_steps.specs.declared.asked_boxes.BoxTest.{BoxTest}
 use Rattle.hb_steps.specs.declared.asked_boxes.BoxTest.TheVariants.{Around}
 use Rattle.hb_steps.specs.Asking.{first_child_box}
+use Rattle.hb_core.specs.Aiming.{HasMany}
 
 -- ---- how many attributes it has
 
 module _ (k : ℕ) where
-  abbrev pub HasMany : Option AskedBox → Type 0
-  HasMany o = IfSome o (λ asked. length asked.area.lo ≡ k)
-
   abbrev IsMany : Placed → Type 0
   IsMany l = length l.area.lo ≡ k
 
@@ -24,29 +22,29 @@ module _ (k : ℕ) where
   first_many : (name : ℕ) (xs : List Placed) → All IsMany xs → IfSome (first_child_box name xs) (λ area. length area.lo ≡ k)
   first_many name xs all = if_value (first_child_box name xs) (λ area. length area.lo ≡ k) (λ area is. All-contains IsMany xs (placed (Child name) area) all (first_child_among name xs area is))
 
-  with_test : (test : BoxTest) (o : Option Area) → IfSome o (λ area. length area.lo ≡ k) → HasMany (option_map (λ (area : Area). record { area = area; test = test }) o)
+  with_test : (test : BoxTest) (o : Option Area) → IfSome o (λ area. length area.lo ≡ k) → HasMany k (option_map (λ (area : Area). record { area = area; test = test }) o)
   with_test test None many = tt
   with_test test (Some area) many = many
 
-  pub child_many : (page : LivePage) (name : ℕ) → length page.area.lo ≡ k → HasMany (box_of_child (Some page) name)
+  pub child_many : (page : LivePage) (name : ℕ) → length page.area.lo ≡ k → HasMany k (box_of_child (Some page) name)
   child_many page name many = with_test Around (first_child_box name (leaves_of page.frag page.area)) (first_many name (leaves_of page.frag page.area) (all_many page many))
 
-  leaf_many : (leaf : Leaf) (area : Area) → length area.lo ≡ k → HasMany (box_by_leaf (placed leaf area))
+  leaf_many : (leaf : Leaf) (area : Area) → length area.lo ≡ k → HasMany k (box_by_leaf (placed leaf area))
   leaf_many (Records records) area many = tt
   leaf_many (Child page) area many = many
   leaf_many (Sibling page) area many = many
 
-  pub place_many : (page : LivePage) (place : ℕ) → length page.area.lo ≡ k → HasMany (box_of_place (Some page) place)
+  pub place_many : (page : LivePage) (place : ℕ) → length page.area.lo ≡ k → HasMany k (box_of_place (Some page) place)
   place_many page place many = by (slice_get (leaves_of page.frag page.area) place) refl
     where
-      by : (o : Option Placed) → slice_get (leaves_of page.frag page.area) place ≡ o → HasMany (option_and_then box_by_leaf o)
+      by : (o : Option Placed) → slice_get (leaves_of page.frag page.area) place ≡ o → HasMany k (option_and_then box_by_leaf o)
       by None is = tt
       by (Some l) is = leaf_many l.leaf l.area (All-contains IsMany (leaves_of page.frag page.area) l (all_many page many) (place_member (leaves_of page.frag page.area) place l is))
 
-  pub sibling_many : (page : LivePage) (name : ℕ) → length page.area.lo ≡ k → HasMany (box_of_sibling (Some page) name)
+  pub sibling_many : (page : LivePage) (name : ℕ) → length page.area.lo ≡ k → HasMany k (box_of_sibling (Some page) name)
   sibling_many page name many = by (first_named name (siblings_of page)) refl
     where
-      by : (o : Option Area) → first_named name (siblings_of page) ≡ o → HasMany (option_map this_box o)
+      by : (o : Option Area) → first_named name (siblings_of page) ≡ o → HasMany k (option_map this_box o)
       by None is = tt
       by (Some area) is = All-contains IsMany (leaves_of page.frag page.area) (placed (Sibling name) area) (all_many page many) (sibling_is_leaf (leaves_of page.frag page.area) name area (first_box_among name (siblings_of page) area is))
 

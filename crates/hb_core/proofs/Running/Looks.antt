@@ -1,5 +1,5 @@
 -- The page into which an actor's next step looks is in memory, as it was before other pages came, and can be looked into.
-use Rattle.hb_core.proofs.Running.Names.{◌≡◌, inl, inr, ℕ, List, Option, Some, None, IfSome, IsSome, refl, sym, ap, ◌∙◌, subst, option_and_then, false≢true, same_Some, Child, LivePage, Live, Mode, IsActor, Meta, live_so, if_live, Holds, Job, Activity, LeadsBelow, walk_held, walk_point, HasLeafAt, wanted_of, IsGoodPage, StoreState, in_memory, looked_live, wanted_by, Brings, MachineKeeps, AtParent, NamesKnown, PairHeld, merging_at, MayLook, wanted_in, Machine, live_here, latches_held, mode_among}
+use Rattle.hb_core.proofs.Running.Names.{◌≡◌, inl, inr, ℕ, List, Option, Some, None, IfSome, IsSome, refl, sym, ap, ◌∙◌, subst, option_and_then, false≢true, same_Some, Child, LivePage, Live, Mode, IsActor, Meta, live_so, if_live, Holds, Job, Activity, LeadsBelow, goal_of, walk_held, walk_point, HasLeafAt, asked_box, box_at, box_of_child, box_of_place, box_of_sibling, whole_box, wanted_of, IsGoodPage, StoreState, in_memory, looked_live, wanted_by, Brings, MachineKeeps, AtParent, NamesKnown, PairHeld, merging_at, MayLook, wanted_in, Machine, live_here, latches_held, mode_among}
 use Rattle.hb_steps.proofs.Memory.BroughtPages.{held_come}
 use Rattle.hb_steps.proofs.Latches.SameLatches.{live_held}
 use Rattle.hb_ops.proofs.Facts.Tips.{first_held}
@@ -163,3 +163,33 @@ module _ (m : Machine) (actor : ℕ) (may : IsActor actor) (keeps : MachineKeeps
   -- and what a consolidator knows it knows still
   pub names_stay : IfSome (merging_at (m.activity actor)) (NamesKnown st)
   names_stay = named_again m.store st (merging_at (m.activity actor)) (place_stays m actor st (held_come m needs st brings actor)) (keeps.walk_in_space.merging actor)
+
+  -- and asks for the same box
+  looked_box : (activity : Activity) (id : ℕ) → m.activity actor ≡ activity → looked_page activity ≡ Some id → live_here st id ≡ live_here m.store id
+  looked_box activity id is page = let into = looks m actor may keeps id (ap looked_page is ∙ page) in held_stays id into.mode into.page into.latched into.live ∙ sym into.live
+
+  same_whole : Some (whole_box st.meta.k) ≡ Some (whole_box m.store.meta.k)
+  same_whole = ap (λ (s : StoreState). Some (whole_box s.meta.k)) brings.rest
+
+  asks_by : (activity : Activity) → m.activity actor ≡ activity → asked_box activity st ≡ asked_box activity m.store
+  asks_by (at.SessionWalk line None rest found) is = same_whole
+  asks_by (at.SessionWalk line (Some held) rest found) is = ap (λ (o : Option LivePage). box_at o (goal_of line.command rest)) (looked_box (at.SessionWalk line (Some held) rest found) held is refl)
+  asks_by (at.PosterWalk job None) is = same_whole
+  asks_by (at.PosterWalk job (Some held)) is = ap (λ (o : Option LivePage). box_at o (Some job.point)) (looked_box (at.PosterWalk job (Some held)) held is refl)
+  asks_by (at.PosterChild job parent) is = ap (λ (o : Option LivePage). box_at o (Some job.point)) (looked_box (at.PosterChild job parent) parent is refl)
+  asks_by (at.PosterAgain job parent) is = ap (λ (o : Option LivePage). box_at o (Some job.point)) (looked_box (at.PosterAgain job parent) parent is refl)
+  asks_by (at.PosterPromote job parent) is = refl
+  asks_by (at.ConsolidatorWalk job None) is = same_whole
+  asks_by (at.ConsolidatorWalk job (Some held)) is = ap (λ (o : Option LivePage). box_at o (Some job.point)) (looked_box (at.ConsolidatorWalk job (Some held)) held is refl)
+  asks_by (at.ConsolidatorScan job parent child) is = ap (λ (o : Option LivePage). box_of_child o child) (looked_box (at.ConsolidatorScan job parent child) parent is refl)
+  asks_by (at.ConsolidatorTry job parent keep gone leaf) is = ap (λ (o : Option LivePage). box_of_place o leaf) (looked_box (at.ConsolidatorTry job parent keep gone leaf) keep is refl)
+  asks_by (at.ConsolidatorPromote job parent keep gone) is = refl
+  asks_by (at.ConsolidatorKeep job parent keep gone) is = ap (λ (o : Option LivePage). box_of_child o keep) (looked_box (at.ConsolidatorKeep job parent keep gone) parent is refl)
+  asks_by (at.ConsolidatorDecide job parent keep gone) is =
+      let into = tries_into m actor may keeps (at.ConsolidatorDecide job parent keep gone) job parent _ (record { keep = keep; gone = gone; leaf = None }) is refl refl in
+      let kept = subst (λ (a : Activity). mode_among keep (latches_held m.store a) ≡ Some into.mode) (sym is) into.latched in
+      ap (λ (o : Option LivePage). box_of_sibling o gone) (held_stays keep into.mode into.page kept into.live ∙ sym into.live)
+  asks_by activity is = same_whole
+
+  pub asks_same : asked_box (m.activity actor) st ≡ asked_box (m.activity actor) m.store
+  asks_same = asks_by (m.activity actor) refl

@@ -1,5 +1,5 @@
 -- A core that works takes a step of the machine that it shows.
-use Rattle.hb_core.proofs.Running.Names.{◌≡◌, ◌⊎◌, inl, inr, ℕ, ◌-◌, ◌↔◌, arith, Bool, true, false, List, slice_set, Option, None, IfSome, IsTrue, refl, sym, ap, ◌∙◌, subst, Activity, DropWhy, Wanted, may_commit, Hand, Empty, HasJob, HasLine, class_of, hand_of, idle_of, Deed, DiskModel, mode_at, HeldModes, IsActor, StopWhy, Use, places, HasPlaces, IsReady, StaysHere, StoreState, in_memory, MustStay, latches_held, CameFor, pages_of, came_stays, GivesUp, Stops, Outcome, looked_live, wanted_by, gives_up, class_for, MayLook, wanted_in, Machine, stopped_for, DoesDeed, StandsAs, number_of, with_stop, RunningCore, ShowsMachine, number_in_hand, IsUnready, Works, IsWorking, MayWork, Halts, MayStep, with_memory}
+use Rattle.hb_core.proofs.Running.Names.{◌≡◌, ◌⊎◌, inl, inr, ℕ, ◌-◌, ◌↔◌, arith, Bool, true, false, List, slice_set, Option, None, IfSome, IsTrue, refl, sym, ap, ◌∙◌, subst, Activity, DropWhy, Wanted, asked_box, Hand, Empty, HasJob, HasLine, class_of, hand_of, idle_of, Deed, DiskModel, mode_at, HeldModes, IsActor, StopWhy, Use, places, HasPlaces, IsReady, StaysHere, StoreState, in_memory, MustStay, latches_held, CameFor, pages_of, came_stays, GivesUp, Stops, Outcome, wanted_by, gives_up, class_for, MayLook, Machine, stopped_for, DoesDeed, StandsAs, number_of, with_stop, RunningCore, ShowsMachine, number_in_hand, IsUnready, Works, IsWorking, MayWork, Halts, MayStep, with_memory}
 use Rattle.std.proofs.Common.{slice_get}
 use Rattle.std.specs.Option.{IsSomeAnd}
 use Rattle.hb_latch.specs.Tables.{IsGrantable, IsLeastInTheWay}
@@ -8,6 +8,8 @@ use Rattle.hb_core.proofs.Running.Frames.{must_here}
 use Rattle.hb_steps.specs.declared.outcomes.Outcome.TheVariants as outcomes
 use Rattle.hb_steps.specs.Asking.{HasWayFree}
 use Rattle.hb_steps.specs.GivingUp.{gives_up_hand}
+use Rattle.hb_core.specs.declared.aiming.Aim.{Aim}
+use Rattle.hb_core.specs.Aiming.{Aims, AimsAt}
 use Rattle.hb_core.proofs.Running.DeedShows.{deed_shows, nothing_moves}
 use Rattle.hb_core.proofs.Running.ForcedShows.{shown_stopped}
 use Rattle.hb_core.proofs.Running.LineTaken.{keeps_none}
@@ -25,8 +27,19 @@ module _ (d : DiskModel) (c : RunningCore) (m : Machine) (actor : ℕ) (may : Is
   looks_now activity so = subst (MayLook c.store) (stands_as d c m actor activity may step.shows so)
       (subst (λ (st : StoreState). MayLook st (m.activity actor)) step.shows.store (may_look_now m actor may step.goes_on.kept))
 
-  pub wants : (wanted : Option Wanted) → ((activity : Activity) → StandsAs c actor activity → wanted ≡ wanted_in c.store activity) → wanted ≡ wanted_by m actor
-  wants wanted is = is (m.activity actor) stands ∙ ap (λ (st : StoreState). wanted_in st (m.activity actor)) (sym step.shows.store)
+  pub works_now : IsWorking (m.activity actor) → (activity : Activity) → StandsAs c actor activity → IsWorking activity
+  works_now works activity so = subst IsWorking (stands_as d c m actor activity may step.shows so) works
+
+  module _ (aim : Aim) (aims : Aims c actor aim) where
+    -- what it aims at by the machine's store
+    aims_so : AimsAt m.store (m.activity actor) aim
+    aims_so = subst (λ (st : StoreState). AimsAt st (m.activity actor) aim) (sym step.shows.store) (aims (m.activity actor) stands)
+
+    pub wants : aim.wanted ≡ wanted_by m actor
+    wants = aims_so.wanted
+
+    pub asks : aim.asked ≡ asked_box (m.activity actor) m.store
+    asks = aims_so.asked
 
   pub holds_line : (line : Option ℕ) → IsWorking (m.activity actor) → ((activity : Activity) → StandsAs c actor activity → line ≡ number_in_hand activity) → line ≡ number_of (hand_of (m.activity actor))
   holds_line line works is = is (m.activity actor) stands ∙ number_of_hand (m.activity actor) (working_waits_not (m.activity actor) works)
@@ -47,35 +60,30 @@ module _ (d : DiskModel) (c : RunningCore) (m : Machine) (actor : ℕ) (may : Is
       (subst (λ (o : Option Wanted). IfSome o (λ w. IsGrantable (mode_at c.latches) actor w.page w.mode)) is free)
 
   -- what says whether log and memory are ready
-  abbrev pub SaysUnready : Option Wanted → Bool → Type 0
-  SaysUnready wanted b = (activity : Activity) → StandsAs c actor activity → (IsTrue b ↔ ((IsTrue (may_commit activity c.store.meta (looked_live c.store activity)) × (¬ (IsReady c.store × HasPlaces c.uses)))
-      ⊎ ((places c.uses ≡ 0) × IsSomeAnd wanted (λ w. in_memory c.store w.page ≡ None))))
+  abbrev pub SaysUnready : Aim → Bool → Type 0
+  SaysUnready aim b = IsTrue b ↔ ((IsTrue aim.may_commit × (¬ (IsReady c.store × HasPlaces c.uses))) ⊎ ((places c.uses ≡ 0) × IsSomeAnd aim.wanted (λ w. in_memory c.store w.page ≡ None)))
 
-  abbrev Unready : StoreState → List Use → Type 0
-  Unready st uses = (IsTrue (may_commit (m.activity actor) st.meta (looked_live st (m.activity actor))) × (¬ (IsReady st × HasPlaces uses)))
-      ⊎ ((places uses ≡ 0) × IsSomeAnd (wanted_by m actor) (λ w. in_memory st w.page ≡ None))
+  module _ (aim : Aim) (aims : Aims c actor aim) (b : Bool) (says : SaysUnready aim b) where
+    abbrev Unready : Option Wanted → Bool → StoreState → List Use → Type 0
+    Unready wanted commits st uses = IsTrue b ↔ ((IsTrue commits × (¬ (IsReady st × HasPlaces uses))) ⊎ ((places uses ≡ 0) × IsSomeAnd wanted (λ w. in_memory st w.page ≡ None)))
 
-  same_unready : (wanted : Option Wanted) (b : Bool) → wanted ≡ wanted_by m actor → SaysUnready wanted b → IsTrue b ↔ Unready m.store m.uses
-  same_unready wanted b is says =
-      subst (λ (st : StoreState). IsTrue b ↔ Unready st m.uses) (sym step.shows.store)
-      (subst (λ (l : List Use). IsTrue b ↔ Unready c.store l) (sym step.shows.uses)
-      (subst (λ (o : Option Wanted). IsTrue b ↔ ((IsTrue (may_commit (m.activity actor) c.store.meta (looked_live c.store (m.activity actor))) × (¬ (IsReady c.store × HasPlaces c.uses)))
-      ⊎ ((places c.uses ≡ 0) × IsSomeAnd o (λ w. in_memory c.store w.page ≡ None)))) is (says (m.activity actor) stands)))
+    says_so : IsTrue b ↔ IsUnready m actor
+    says_so =
+        let so = aims_so aim aims in
+        subst (λ (commits : Bool). Unready (wanted_by m actor) commits m.store m.uses) so.may_commit
+        (subst (λ (wanted : Option Wanted). Unready wanted aim.may_commit m.store m.uses) so.wanted
+        (subst (λ (st : StoreState). Unready aim.wanted aim.may_commit st m.uses) (sym step.shows.store)
+        (subst (λ (l : List Use). Unready aim.wanted aim.may_commit c.store l) (sym step.shows.uses) says)))
 
-  pub unready : (wanted : Option Wanted) (b : Bool) → wanted ≡ wanted_by m actor → SaysUnready wanted b → b ≡ true → IsUnready m actor
-  unready wanted b is says so = (same_unready wanted b is says).0 so
+    pub unready : b ≡ true → IsUnready m actor
+    unready so = says_so.0 so
 
-  pub ready : (wanted : Option Wanted) (b : Bool) → wanted ≡ wanted_by m actor → SaysUnready wanted b → b ≡ false → ¬ (IsUnready m actor)
-  ready wanted b is says off change = let so : b ≡ true = (same_unready wanted b is says).1 change in let never : false ≡ true = sym off ∙ so in cc
+    pub ready : b ≡ false → ¬ (IsUnready m actor)
+    ready off change = let so : b ≡ true = says_so.1 change in let never : false ≡ true = sym off ∙ so in cc
 
-  pub works_may : m.stop ≡ None → IsWorking (m.activity actor) → HasWayFree m actor → ¬ (IsUnready m actor) → MayWork m actor
-  works_may runs works free is_ready = record { goes_on = step.goes_on; runs = runs; working = works; free = free; ready = is_ready }
-
--- so it may work, by what the calls said
-pub may_work : (d : DiskModel) (c : RunningCore) (m : Machine) (actor : ℕ) (may : IsActor actor) (step : MayStep d c m) (wanted : Option Wanted) (b : Bool) → m.stop ≡ None → IsWorking (m.activity actor)
-    → ((activity : Activity) → StandsAs c actor activity → wanted ≡ wanted_in c.store activity) → IfSome wanted (λ w. IsGrantable (mode_at c.latches) actor w.page w.mode) → SaysUnready d c m actor may step wanted b → b ≡ false → MayWork m actor
-may_work d c m actor may step wanted b runs works wants_so free says is =
-    works_may d c m actor may step runs works (way_free d c m actor may step wanted (wants d c m actor may step wanted wants_so) free) (ready d c m actor may step wanted b (wants d c m actor may step wanted wants_so) says is)
+    -- so it may work, by what the calls said
+    pub may_work : m.stop ≡ None → IsWorking (m.activity actor) → IfSome aim.wanted (λ w. IsGrantable (mode_at c.latches) actor w.page w.mode) → b ≡ false → MayWork m actor
+    may_work runs works free is = record { goes_on = step.goes_on; runs = runs; working = works; free = way_free aim.wanted (wants aim aims) free; ready = ready is }
 
 -- each machine that is shown works where one does
 pub works_too : (d : DiskModel) (c : RunningCore) (m n : Machine) (actor : ℕ) → IsActor actor → MayStep d c m → MayStep d c n → IsWorking (n.activity actor) → IsWorking (m.activity actor)

@@ -1,7 +1,6 @@
 -- What a page weighs once the record of a point is gone.
-use Rattle.std.proofs.Common.{◌≡◌, ℕ, ◌+◌, ◌-◌, ◌<◌, ◌≤◌, max, Bool, true, false, List, [], ◌∷◌, length, take, drop, AllPairs, Some, sym, ap, subst, ◌∙◌, arith, zero, suc, refl, inl, inr, ◌↔◌, ◌*◌, ◌/◌, IsTrue, nat_le}
+use Rattle.std.proofs.Common.{◌≡◌, ℕ, ◌+◌, ◌-◌, ◌<◌, ◌≤◌, max, List, [], ◌∷◌, length, take, drop, AllPairs, Some, ap, subst, ◌∙◌, arith, zero, suc}
 use Rattle.std.specs.List.{slice_get}
-use Rattle.std.proofs.lemmas.Bool.{cases_lt, le-leb, lt-leb, false≢true}
 use Rattle.std.proofs.lemmas.List.{length-append, length-take, length-drop}
 use Rattle.std.proofs.lemmas.Option.{none-some}
 use Rattle.hb_frag.specs.Leaves.{leaf_at, weight_of}

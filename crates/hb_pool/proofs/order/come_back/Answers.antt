@@ -2,7 +2,8 @@ use Rattle.std.proofs.Common.{◌-◌, remove, ap, ◌∙◌, arith}
 use Rattle.std.proofs.lemmas.List.Edits.{length-remove}
 use Rattle.indexmap.specs.IndexMap.{set_value_at}
 use Rattle.indexmap.proofs.CallerLemmas.{index_map_len-with_value_at}
-use Rattle.hb_pool.proofs.Facts.Front.{put_last_there, last_written}
+use Rattle.hb_pool.proofs.Facts.Front.{last_written}
+use Rattle.hb_pool.proofs.Facts.Moves.{put_last_there}
 use Rattle.hb_pool.proofs.order.come_back.Goals as goal
 
 pub returns-clause-entries : goal.returns-clause-entries

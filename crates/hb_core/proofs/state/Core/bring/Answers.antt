@@ -8,13 +8,15 @@ use Rattle.hb_store.specs.Seen.{seen_as, uses_of}
 use Rattle.hb_store.specs.States.{StoreState, in_memory}
 use Rattle.hb_core.specs.Moving.{with_order_of_use, with_store}
 use Rattle.hb_core.specs.CoreSeen.{core_seen}
-use Rattle.hb_core.specs.Going.{IsWorking}
 use Rattle.hb_core.specs.Working.{Halts}
 use Rattle.hb_core.specs.declared.halts.Halt.{Halt}
-use Rattle.hb_core.proofs.Running.Coming.{failed_test, looks_as, looks_kept, may_be_pinned, may_let_go, not_crowded, passed, refused}
-use Rattle.hb_core.proofs.Running.StandsElsewhere.{stands_as}
+use Rattle.hb_core.proofs.Running.Coming.{asks_then, failed_test, looks_kept, many_then, may_be_pinned, may_let_go, none_comes, not_crowded, passed, refused}
 use Rattle.hb_core.proofs.state.Core.bring.Goals as goal
 use Rattle.hb_lemmas.proofs.Options.{has_value, none_unless}
+
+pub returns-in_default-clause-comes : goal.returns-in_default-clause-comes
+returns-in_default-clause-comes g c m may work =
+    none_comes m (g.D.Device.model c.args.self.now.store.disk) (core_seen c.args.self.now) c.args.actor c.requires.actor may work (sym c.in_default.is ∙ c.requires.wanted m may)
 
 pub pin-requires : goal.pin-requires
 pin-requires g c =
@@ -26,12 +28,10 @@ tested-requires g c =
     let m = c.requires.may.0 in
     let may = c.requires.may.1 in
     record {
-      actor = c.requires.actor;
       there = (subst (λ (st : StoreState). Fetched c.in-Some.wanted.page (seen_as c.args.self.now.store) st) (sym c.pin.ensures.seen) c.in-Ok.ensures.fetched).there;
-      working = λ activity stands. subst IsWorking (stands_as (g.D.Device.model c.args.self.now.store.disk) (core_seen c.args.self.now) m c.args.actor activity c.requires.actor may.shows stands) c.requires.may.2.working;
-      look = looks_as m (g.D.Device.model c.args.self.now.store.disk) (core_seen c.args.self.now) c.args.actor c.requires.actor may c.requires.may.2 c.in-Some.wanted (sym (c.requires.wanted m may) ∙ c.in-Some.is)
+      many = many_then m (g.D.Device.model c.args.self.now.store.disk) (core_seen c.args.self.now) c.args.actor c.requires.actor may c.requires.may.2 c.in-Some.wanted (sym (c.requires.wanted m may) ∙ c.in-Some.is)
           (g.D.Device.model c.pin.new.self.disk) _ (seen_as c.pin.new.self) (looks_kept (ap g.D.Device.model c.pin.ensures.disk) c.pin.ensures.seen c.in-Ok.ensures.looks) c.stands_well.ensures.store.memory (subst (λ (st : StoreState). Fetched c.in-Some.wanted.page (seen_as c.args.self.now.store) st) (sym c.pin.ensures.seen) c.in-Ok.ensures.fetched)
-          (λ id stays. ap (λ (st : StoreState). in_memory st id) c.pin.ensures.seen ∙ c.in-Ok.ensures.stays id stays);
+          (λ id stays. ap (λ (st : StoreState). in_memory st id) c.pin.ensures.seen ∙ c.in-Ok.ensures.stays id stays) c.args.aim.now.asked (c.requires.asked m may);
     }
 
 pub returns-in-Ok-tested-clause-comes : goal.returns-in-Ok-tested-clause-comes
@@ -40,7 +40,9 @@ returns-in-Ok-tested-clause-comes g c m may work =
     (g.D.Device.model c.pin.new.self.disk) _ (seen_as c.pin.new.self) (looks_kept (ap g.D.Device.model c.pin.ensures.disk) c.pin.ensures.seen c.in-Ok.ensures.looks) c.stands_well.ensures.store.memory (subst (λ (st : StoreState). Fetched c.in-Some.wanted.page (seen_as c.args.self.now.store) st) (sym c.pin.ensures.seen) c.in-Ok.ensures.fetched)
     (λ id stays. ap (λ (st : StoreState). in_memory st id) c.pin.ensures.seen ∙ c.in-Ok.ensures.stays id stays)
     (uses_of c.pin.new.self) (c.pin.ensures.uses ∙ ap (put_last c.in-Some.wanted.page pinned) c.in-Ok.ensures.uses) c.stands_well.ensures.tied
-    (c.in-Ok-tested.ensures.passes (m.activity c.args.actor) (may.shows.activities c.args.actor c.requires.actor))
+    (c.in-Ok-tested.ensures.passes (m.activity c.args.actor) (asks_then m (g.D.Device.model c.args.self.now.store.disk) (core_seen c.args.self.now) c.args.actor c.requires.actor may work c.in-Some.wanted (sym (c.requires.wanted m may) ∙ c.in-Some.is)
+    (g.D.Device.model c.pin.new.self.disk) _ (seen_as c.pin.new.self) (looks_kept (ap g.D.Device.model c.pin.ensures.disk) c.pin.ensures.seen c.in-Ok.ensures.looks) c.stands_well.ensures.store.memory (subst (λ (st : StoreState). Fetched c.in-Some.wanted.page (seen_as c.args.self.now.store) st) (sym c.pin.ensures.seen) c.in-Ok.ensures.fetched)
+    (λ id stays. ap (λ (st : StoreState). in_memory st id) c.pin.ensures.seen ∙ c.in-Ok.ensures.stays id stays) c.args.aim.now.asked (c.requires.asked m may)))
 
 pub unpin-requires : goal.unpin-requires
 unpin-requires g c =
@@ -61,7 +63,9 @@ returns-in-Err-tested-clause-halts g c m may work =
     (g.D.Device.model c.pin.new.self.disk) _ (seen_as c.pin.new.self) (looks_kept (ap g.D.Device.model c.pin.ensures.disk) c.pin.ensures.seen c.in-Ok.ensures.looks) c.stands_well.ensures.store.memory (subst (λ (st : StoreState). Fetched c.in-Some.wanted.page (seen_as c.args.self.now.store) st) (sym c.pin.ensures.seen) c.in-Ok.ensures.fetched)
     (λ id stays. ap (λ (st : StoreState). in_memory st id) c.pin.ensures.seen ∙ c.in-Ok.ensures.stays id stays)
     (uses_of c.pin.new.self) (uses_of c.unpin.new.self) (c.pin.ensures.uses ∙ ap (put_last c.in-Some.wanted.page pinned) c.in-Ok.ensures.uses) c.stands_well.ensures.tied c.unpin.ensures.uses
-    fails.0 (fails.2 (m.activity c.args.actor) (may.shows.activities c.args.actor c.requires.actor)))))
+    fails.0 (fails.2 (m.activity c.args.actor) (asks_then m (g.D.Device.model c.args.self.now.store.disk) (core_seen c.args.self.now) c.args.actor c.requires.actor may work c.in-Some.wanted (sym (c.requires.wanted m may) ∙ c.in-Some.is)
+    (g.D.Device.model c.pin.new.self.disk) _ (seen_as c.pin.new.self) (looks_kept (ap g.D.Device.model c.pin.ensures.disk) c.pin.ensures.seen c.in-Ok.ensures.looks) c.stands_well.ensures.store.memory (subst (λ (st : StoreState). Fetched c.in-Some.wanted.page (seen_as c.args.self.now.store) st) (sym c.pin.ensures.seen) c.in-Ok.ensures.fetched)
+    (λ id stays. ap (λ (st : StoreState). in_memory st id) c.pin.ensures.seen ∙ c.in-Ok.ensures.stays id stays) c.args.aim.now.asked (c.requires.asked m may))))))
 
 pub halt_of-requires : goal.halt_of-requires
 halt_of-requires g c is =

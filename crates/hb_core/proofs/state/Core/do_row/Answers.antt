@@ -36,16 +36,16 @@ pub let_go-requires : goal.let_go-requires
 let_go-requires g c =
     let m = c.requires.row.may.0 in
     let own = c.in_ok-bring.ensures.comes m c.requires.row.may.1 c.requires.row.may.2 in
-    may_let_wanted_go m c.args.actor (g.D.Device.model (core_disk c.row_there.new.self)) (core_seen c.row_there.new.self) c.args.wanted c.in-Err.halt own.may.goes_on.kept (c.requires.row.wanted m c.requires.row.may.1) (c.in-Err.ensures.halts m own)
+    may_let_wanted_go m c.args.actor (g.D.Device.model (core_disk c.row_there.new.self)) (core_seen c.row_there.new.self) c.args.aim.now.wanted c.in-Err.halt own.may.goes_on.kept (c.requires.row.wanted m c.requires.row.may.1) (c.in-Err.ensures.halts m own)
 
 pub returns-in-Err-clause-halts : goal.returns-in-Err-clause-halts
 returns-in-Err-clause-halts g c m may work =
     let own = c.in_ok-bring.ensures.comes m may work in
     let halts = c.in-Err.ensures.halts m own in
-    let can = may_let_wanted_go m c.args.actor (g.D.Device.model (core_disk c.row_there.new.self)) (core_seen c.row_there.new.self) c.args.wanted c.in-Err.halt own.may.goes_on.kept (c.requires.row.wanted m may) halts in
+    let can = may_let_wanted_go m c.args.actor (g.D.Device.model (core_disk c.row_there.new.self)) (core_seen c.row_there.new.self) c.args.aim.now.wanted c.in-Err.halt own.may.goes_on.kept (c.requires.row.wanted m may) halts in
     subst (λ (k : _). Halts m c.args.actor c.in-Err.halt (g.D.Device.model k) (core_seen c.let_go.new.self)) (sym c.let_go.ensures.disk)
     (subst (λ (s : RunningCore). Halts m c.args.actor c.in-Err.halt (g.D.Device.model (core_disk c.row_there.new.self)) s) (sym c.let_go.ensures.does)
-    (let_go m c.args.actor (g.D.Device.model (core_disk c.row_there.new.self)) (core_seen c.row_there.new.self) _ c.args.wanted c.in-Err.halt (c.requires.row.wanted m may) halts can refl))
+    (let_go m c.args.actor (g.D.Device.model (core_disk c.row_there.new.self)) (core_seen c.row_there.new.self) _ c.args.aim.now.wanted c.in-Err.halt (c.requires.row.wanted m may) halts can refl))
 
 pub returns-in-Ok-clause-done : goal.returns-in-Ok-clause-done
 returns-in-Ok-clause-done g c m may work = c.in-Ok.ensures.done m (c.in_ok-bring.ensures.comes m may work)

@@ -10,20 +10,21 @@ use Rattle.hb_core.specs.Showing.{RunningCore}
 use Rattle.hb_steps.proofs.Machines.PlacesLeft.{always_flushes}
 use Rattle.hb_steps.proofs.Facts.GivenUpLaws.{gives_up_nothing}
 use Rattle.hb_core.proofs.Running.Counted.{deed_stays, deed_store, no_op_still, part_then, stays_part}
-use Rattle.hb_core.proofs.Running.WorkDone.{blocked, given_up, holds_line, holds_pages, looks_now, may_work, stopped, unready, wants, way_free, works_too}
+use Rattle.hb_core.proofs.Running.WorkDone.{asks, blocked, given_up, holds_line, holds_pages, looks_now, may_work, stopped, unready, wants, way_free, works_now, works_too}
 use Rattle.hb_core.proofs.Running.WorkTouches.{done_touches, given_up_touches, row_well, stopped_touches}
 use Rattle.hb_core.proofs.Running.OwnPins.{walk_there}
 use Rattle.hb_core.proofs.state.Core.work.Goals as goal
 
-pub wanted-wanted-requires : goal.wanted-wanted-requires
-wanted-wanted-requires g c = record { actor = c.requires.actor; look = looks_now (g.D.Device.model (core_disk c.args.self.now)) (core_seen c.args.self.now) c.requires.may.0 c.args.actor c.requires.actor c.requires.may.1 }
-
-pub is_unready-requires : goal.is_unready-requires
-is_unready-requires g c = record { actor = c.requires.actor; look = looks_now (g.D.Device.model (core_disk c.args.self.now)) (core_seen c.args.self.now) c.requires.may.0 c.args.actor c.requires.actor c.requires.may.1 }
+pub aim-aim-requires : goal.aim-aim-requires
+aim-aim-requires g c = record {
+  actor = c.requires.actor;
+  working = works_now (g.D.Device.model (core_disk c.args.self.now)) (core_seen c.args.self.now) c.requires.may.0 c.args.actor c.requires.actor c.requires.may.1 c.requires.may.3;
+  look = looks_now (g.D.Device.model (core_disk c.args.self.now)) (core_seen c.args.self.now) c.requires.may.0 c.args.actor c.requires.actor c.requires.may.1;
+}
 
 pub returns-in-Some-clause-works : goal.returns-in-Some-clause-works
 returns-in-Some-clause-works g c m step runs works =
-    blocked (g.D.Device.model (core_disk c.args.self.now)) (core_seen c.args.self.now) m c.args.actor c.requires.actor step c.wanted-wanted.result c.in-Some.by (wants (g.D.Device.model (core_disk c.args.self.now)) (core_seen c.args.self.now) m c.args.actor c.requires.actor step c.wanted-wanted.result c.wanted-wanted.ensures) c.in-Some.ensures.least
+    blocked (g.D.Device.model (core_disk c.args.self.now)) (core_seen c.args.self.now) m c.args.actor c.requires.actor step c.aim-aim.result.wanted c.in-Some.by (wants (g.D.Device.model (core_disk c.args.self.now)) (core_seen c.args.self.now) m c.args.actor c.requires.actor step c.aim-aim.result c.aim-aim.ensures) c.in-Some.ensures.least
 
 pub flush-requires-clause-may : goal.flush-requires-clause-may
 flush-requires-clause-may g c = (c.requires.may.0, c.requires.may.1, c.requires.may.2)
@@ -31,10 +32,10 @@ flush-requires-clause-may g c = (c.requires.may.0, c.requires.may.1, c.requires.
 pub returns-then-is_unready-clause-works : goal.returns-then-is_unready-clause-works
 returns-then-is_unready-clause-works g c m step runs works =
     let done = c.flush.ensures.steps m step runs in
-    let is_unready = unready (g.D.Device.model (core_disk c.args.self.now)) (core_seen c.args.self.now) m c.args.actor c.requires.actor step c.wanted-wanted.result c.is_unready.result (wants (g.D.Device.model (core_disk c.args.self.now)) (core_seen c.args.self.now) m c.args.actor c.requires.actor step c.wanted-wanted.result c.wanted-wanted.ensures) c.is_unready.ensures c.if-is_unready.true in (
+    let is_unready = unready (g.D.Device.model (core_disk c.args.self.now)) (core_seen c.args.self.now) m c.args.actor c.requires.actor step c.aim-aim.result c.aim-aim.ensures c.is_unready.result c.is_unready.ensures c.if-is_unready.true in (
       done.0,
       inr (inl (
-        way_free (g.D.Device.model (core_disk c.args.self.now)) (core_seen c.args.self.now) m c.args.actor c.requires.actor step c.wanted-wanted.result (wants (g.D.Device.model (core_disk c.args.self.now)) (core_seen c.args.self.now) m c.args.actor c.requires.actor step c.wanted-wanted.result c.wanted-wanted.ensures) (c.in_the_way.ensures.free c.in_default.is),
+        way_free (g.D.Device.model (core_disk c.args.self.now)) (core_seen c.args.self.now) m c.args.actor c.requires.actor step c.aim-aim.result.wanted (wants (g.D.Device.model (core_disk c.args.self.now)) (core_seen c.args.self.now) m c.args.actor c.requires.actor step c.aim-aim.result c.aim-aim.ensures) (c.in_the_way.ensures.free c.in_default.is),
         is_unready,
         always_flushes m c.args.actor c.flush.result done.0 step.goes_on.kept is_unready done.1,
       )),
@@ -49,8 +50,9 @@ do_row-requires-clause-row g c =
     let works = c.requires.may.3 in
     record {
       actor = c.requires.actor;
-      may = (m, step, may_work (g.D.Device.model (core_disk c.args.self.now)) (core_seen c.args.self.now) m c.args.actor c.requires.actor step c.wanted-wanted.result c.is_unready.result runs works c.wanted-wanted.ensures (c.in_the_way.ensures.free c.in_default.is) c.is_unready.ensures c.if-is_unready.false);
-      wanted = λ n its. wants (g.D.Device.model (core_disk c.args.self.now)) (core_seen c.args.self.now) n c.args.actor c.requires.actor its c.wanted-wanted.result c.wanted-wanted.ensures;
+      may = (m, step, may_work (g.D.Device.model (core_disk c.args.self.now)) (core_seen c.args.self.now) m c.args.actor c.requires.actor step c.aim-aim.result c.aim-aim.ensures c.is_unready.result c.is_unready.ensures runs works (c.in_the_way.ensures.free c.in_default.is) c.if-is_unready.false);
+      wanted = λ n its. wants (g.D.Device.model (core_disk c.args.self.now)) (core_seen c.args.self.now) n c.args.actor c.requires.actor its c.aim-aim.result c.aim-aim.ensures;
+      asked = λ n its. asks (g.D.Device.model (core_disk c.args.self.now)) (core_seen c.args.self.now) n c.args.actor c.requires.actor its c.aim-aim.result c.aim-aim.ensures;
     }
 
 pub held_pages-pins-requires-clause-walks : goal.held_pages-pins-requires-clause-walks
@@ -65,7 +67,7 @@ give_up-requires-clause-pins g c =
     let step = c.requires.may.1 in
     let runs = c.requires.may.2 in
     let works = c.requires.may.3 in
-    let work = may_work (g.D.Device.model (core_disk c.args.self.now)) (core_seen c.args.self.now) m c.args.actor c.requires.actor step c.wanted-wanted.result c.is_unready.result runs works c.wanted-wanted.ensures (c.in_the_way.ensures.free c.in_default.is) c.is_unready.ensures c.if-is_unready.false in
+    let work = may_work (g.D.Device.model (core_disk c.args.self.now)) (core_seen c.args.self.now) m c.args.actor c.requires.actor step c.aim-aim.result c.aim-aim.ensures c.is_unready.result c.is_unready.ensures runs works (c.in_the_way.ensures.free c.in_default.is) c.if-is_unready.false in
     let halts = c.in-Err-GivesUp.ensures.halts m step work in
     subst (λ (l : List ℕ). CanUnpin l (core_seen c.do_row.new.self).uses) (sym (c.as_slice-in-Err-GivesUp.ensures.value ∙ holds_pages (g.D.Device.model (core_disk c.args.self.now)) (core_seen c.args.self.now) m c.args.actor c.requires.actor step c.held_pages-pins.result.items c.held_pages-pins.ensures))
     (may_give_up m c.args.actor (core_seen c.do_row.new.self).store (core_seen c.do_row.new.self).uses c.requires.actor work.goes_on.kept halts.tied halts.used_is)
@@ -76,7 +78,7 @@ give_up-requires-clause-tied g c =
     let step = c.requires.may.1 in
     let runs = c.requires.may.2 in
     let works = c.requires.may.3 in
-    (c.in-Err-GivesUp.ensures.halts m step (may_work (g.D.Device.model (core_disk c.args.self.now)) (core_seen c.args.self.now) m c.args.actor c.requires.actor step c.wanted-wanted.result c.is_unready.result runs works c.wanted-wanted.ensures (c.in_the_way.ensures.free c.in_default.is) c.is_unready.ensures c.if-is_unready.false)).tied
+    (c.in-Err-GivesUp.ensures.halts m step (may_work (g.D.Device.model (core_disk c.args.self.now)) (core_seen c.args.self.now) m c.args.actor c.requires.actor step c.aim-aim.result c.aim-aim.ensures c.is_unready.result c.is_unready.ensures runs works (c.in_the_way.ensures.free c.in_default.is) c.if-is_unready.false)).tied
 
 pub do_row-requires-clause-line : goal.do_row-requires-clause-line
 do_row-requires-clause-line g c m step =
@@ -84,7 +86,7 @@ do_row-requires-clause-line g c m step =
 
 pub returns-in-Ok-clause-works : goal.returns-in-Ok-clause-works
 returns-in-Ok-clause-works g c m step runs works =
-    let work = may_work (g.D.Device.model (core_disk c.args.self.now)) (core_seen c.args.self.now) m c.args.actor c.requires.actor step c.wanted-wanted.result c.is_unready.result runs works c.wanted-wanted.ensures (c.in_the_way.ensures.free c.in_default.is) c.is_unready.ensures c.if-is_unready.false in
+    let work = may_work (g.D.Device.model (core_disk c.args.self.now)) (core_seen c.args.self.now) m c.args.actor c.requires.actor step c.aim-aim.result c.aim-aim.ensures c.is_unready.result c.is_unready.ensures runs works (c.in_the_way.ensures.free c.in_default.is) c.if-is_unready.false in
     let done = c.in-Ok.ensures.done m step work in
     (done.0, inr (inr (work.free, work.ready, inl done.1)), done.2)
 
@@ -94,12 +96,12 @@ returns-in-Ok-clause-touches g c =
     let step = c.requires.may.1 in
     let runs = c.requires.may.2 in
     let works = c.requires.may.3 in
-    let done = c.in-Ok.ensures.done m step (may_work (g.D.Device.model (core_disk c.args.self.now)) (core_seen c.args.self.now) m c.args.actor c.requires.actor step c.wanted-wanted.result c.is_unready.result runs works c.wanted-wanted.ensures (c.in_the_way.ensures.free c.in_default.is) c.is_unready.ensures c.if-is_unready.false) in
+    let done = c.in-Ok.ensures.done m step (may_work (g.D.Device.model (core_disk c.args.self.now)) (core_seen c.args.self.now) m c.args.actor c.requires.actor step c.aim-aim.result c.aim-aim.ensures c.is_unready.result c.is_unready.ensures runs works (c.in_the_way.ensures.free c.in_default.is) c.if-is_unready.false) in
     done_touches (g.D.Device.model (core_disk c.args.self.now)) (g.D.Device.model (core_disk c.do_row.new.self)) (core_seen c.args.self.now) (core_seen c.do_row.new.self) c.in-Ok.outcome (λ never. never) (row_well m c.args.actor c.in-Ok.outcome done.0 done.1) c.in-Ok.ensures.reads
 
 pub returns-in-Err-GivesUp-clause-works : goal.returns-in-Err-GivesUp-clause-works
 returns-in-Err-GivesUp-clause-works g c m step runs works =
-    let work = may_work (g.D.Device.model (core_disk c.args.self.now)) (core_seen c.args.self.now) m c.args.actor c.requires.actor step c.wanted-wanted.result c.is_unready.result runs works c.wanted-wanted.ensures (c.in_the_way.ensures.free c.in_default.is) c.is_unready.ensures c.if-is_unready.false in
+    let work = may_work (g.D.Device.model (core_disk c.args.self.now)) (core_seen c.args.self.now) m c.args.actor c.requires.actor step c.aim-aim.result c.aim-aim.ensures c.is_unready.result c.is_unready.ensures runs works (c.in_the_way.ensures.free c.in_default.is) c.if-is_unready.false in
     given_up g.D.Device.model (core_disk c.do_row.new.self) (core_disk c.give_up.new.self) (core_seen c.do_row.new.self) (core_seen c.give_up.new.self) m c.args.actor c.requires.actor work c.give_up.ensures.disk
     c.in-Err-GivesUp.why c.line_in_hand-line.result c.as_slice-in-Err-GivesUp.result.now c.give_up.result
     (subst (λ (h : Halt). Halts m c.args.actor h (g.D.Device.model (core_disk c.do_row.new.self)) (core_seen c.do_row.new.self)) c.in-Err-GivesUp.field-0-is (c.in-Err-GivesUp.ensures.halts m step work))
@@ -119,7 +121,7 @@ returns-in-Err-GivesUp-clause-touches g c =
 
 pub returns-in-Err-Stops-clause-works : goal.returns-in-Err-Stops-clause-works
 returns-in-Err-Stops-clause-works g c m step runs works =
-    let work = may_work (g.D.Device.model (core_disk c.args.self.now)) (core_seen c.args.self.now) m c.args.actor c.requires.actor step c.wanted-wanted.result c.is_unready.result runs works c.wanted-wanted.ensures (c.in_the_way.ensures.free c.in_default.is) c.is_unready.ensures c.if-is_unready.false in
+    let work = may_work (g.D.Device.model (core_disk c.args.self.now)) (core_seen c.args.self.now) m c.args.actor c.requires.actor step c.aim-aim.result c.aim-aim.ensures c.is_unready.result c.is_unready.ensures runs works (c.in_the_way.ensures.free c.in_default.is) c.if-is_unready.false in
     stopped g.D.Device.model (core_disk c.do_row.new.self) (core_disk c.stop_for.new.self) (core_seen c.do_row.new.self) (core_seen c.stop_for.new.self) m c.args.actor c.requires.actor work c.stop_for.ensures.stops.disk
     c.in-Err-Stops.why (core_seen c.args.self.now) c.stop_for.result
     (subst (λ (h : Halt). Halts m c.args.actor h (g.D.Device.model (core_disk c.do_row.new.self)) (core_seen c.do_row.new.self)) c.in-Err-Stops.field-0-is (c.in-Err-Stops.ensures.halts m step work))
@@ -131,7 +133,7 @@ returns-in-Err-Stops-clause-touches g c =
     let step = c.requires.may.1 in
     let runs = c.requires.may.2 in
     let works = c.requires.may.3 in
-    let work = may_work (g.D.Device.model (core_disk c.args.self.now)) (core_seen c.args.self.now) m c.args.actor c.requires.actor step c.wanted-wanted.result c.is_unready.result runs works c.wanted-wanted.ensures (c.in_the_way.ensures.free c.in_default.is) c.is_unready.ensures c.if-is_unready.false in
+    let work = may_work (g.D.Device.model (core_disk c.args.self.now)) (core_seen c.args.self.now) m c.args.actor c.requires.actor step c.aim-aim.result c.aim-aim.ensures c.is_unready.result c.is_unready.ensures runs works (c.in_the_way.ensures.free c.in_default.is) c.if-is_unready.false in
     let halts = subst (λ (h : Halt). Halts m c.args.actor h (g.D.Device.model (core_disk c.do_row.new.self)) (core_seen c.do_row.new.self)) c.in-Err-Stops.field-0-is (c.in-Err-Stops.ensures.halts m step work) in
     subst (λ (k : _). Touches (g.D.Device.model (core_disk c.args.self.now)) (core_seen c.args.self.now) c.stop_for.result (g.D.Device.model k) (core_seen c.stop_for.new.self)) (sym c.stop_for.ensures.stops.disk)
     (stopped_touches (g.D.Device.model (core_disk c.args.self.now)) (g.D.Device.model (core_disk c.do_row.new.self)) (core_seen c.args.self.now) (core_seen c.stop_for.new.self) c.stop_for.result m c.args.actor (core_seen c.do_row.new.self).store c.in-Err-Stops.why halts.cause c.stop_for.ensures.says

@@ -2,7 +2,8 @@ use Rattle.std.proofs.Common.{◌≡◌, ◌-◌, nat_eq, ℕ, List, None, ◌�
 use Rattle.std.specs.Map.{lookup}
 use Rattle.hb_lemmas.proofs.Options.{none_so}
 use Rattle.hb_pool.specs.Slots.{entry_of}
-use Rattle.hb_pool.proofs.Facts.Front.{absent_behind, back_behind, entry_at, was_in_front}
+use Rattle.hb_pool.proofs.Facts.Front.{absent_behind, entry_at, was_in_front}
+use Rattle.hb_pool.proofs.Facts.Moves.{back_behind}
 use Rattle.hb_pool.proofs.order.Order.insert.Goals as goal
 
 pub overflow_sub-self : goal.overflow_sub-self

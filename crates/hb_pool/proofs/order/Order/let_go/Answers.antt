@@ -2,7 +2,7 @@ use Rattle.std.proofs.Common.{◌+◌, ◌<◌, ℕ, List, Some, length, drop, m
 use Rattle.std.proofs.lemmas.List.{length-map}
 use Rattle.std.proofs.lemmas.Option.{slice_get-get_or}
 use Rattle.hb_lemmas.proofs.Lists.{place_within}
-use Rattle.hb_pool.proofs.Facts.Front.{gone_behind}
+use Rattle.hb_pool.proofs.Facts.Moves.{gone_behind}
 use Rattle.hb_pool.proofs.order.Order.let_go.Goals as goal
 
 pub returns-clause-left : goal.returns-clause-left

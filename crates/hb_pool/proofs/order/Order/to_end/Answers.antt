@@ -1,6 +1,6 @@
 use Rattle.std.proofs.Common.{◌≡◌, ◌-◌, ℕ, List, ◌∷◌, [], ◌++◌, length, drop, remove, slice_get, ap, ◌∙◌, arith}
 use Rattle.std.proofs.lemmas.List.{length-drop}
-use Rattle.hb_pool.proofs.Facts.Front.{last_behind, last_stays}
+use Rattle.hb_pool.proofs.Facts.Moves.{last_behind, last_stays}
 use Rattle.hb_pool.proofs.order.Order.to_end.Goals as goal
 
 pub overflow_add-from : goal.overflow_add-from
