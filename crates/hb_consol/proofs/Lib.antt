@@ -6,3 +6,4 @@ pub mod ScannedPairs
 pub mod MadeRows
 pub mod AllowedMerges
 pub mod ChildrenBehind
+pub mod ViewedParents

@@ -1,7 +1,9 @@
 -- What the decider of the consolidator may rely on, and where it asks for memory.
-use Rattle.std.specs.Prelude.{◌≡◌, ◌≢◌, ℕ, ◌<◌, List, [], ◌∷◌, Option, Some}
+use Rattle.std.specs.Prelude.{◌≡◌, ◌≢◌, ℕ, ◌<◌, List, [], ◌∷◌, Option, Some, None}
 use Rattle.hb_layout.specs.declared.meta.Meta.{Meta}
+use Rattle.hb_layout.specs.Limits.{IsLayout}
 use Rattle.hb_frag.specs.declared.pages.LivePage.{LivePage}
+use Rattle.hb_frag.specs.declared.pages.Page.{Page}
 use Rattle.hb_frag.specs.Rules.{capacity_of}
 use Rattle.hb_ops.specs.Merging.{MayMerge}
 use Rattle.hb_ops.specs.Sound.{FitsFile}
@@ -9,6 +11,7 @@ use Rattle.hb_activity.specs.declared.jobs.Job.{Job}
 use Rattle.hb_activity.specs.declared.activities.Activity.{Activity}
 use Rattle.hb_activity.specs.declared.activities.Activity.TheVariants as at
 use Rattle.hb_activity.specs.Passing.{WalksAbove}
+use Rattle.hb_view.specs.Views.{IsLiveAnd}
 
 -- The pages that a step is given, by their numbers: in front of the one that it latched the parent, and the page to keep where a
 -- pair is tried or decided.
@@ -47,3 +50,15 @@ MergesTwo meta gone above kept page = (0 < meta.live) × MayMerge above kept gon
 abbrev pub AsksMemoryToMerge : Activity → Meta → LivePage → Option LivePage → Option LivePage → Type 0
 AsksMemoryToMerge (at.ConsolidatorDecide job parent keep gone) meta page (Some above) (Some kept) = MergesTwo meta gone above kept page
 AsksMemoryToMerge other meta page first second = ⊥
+
+-- A consolidator on its way to a parent, one that promotes it, or one that takes the page to keep: its step changes nothing, and
+-- reads its page where that lies.
+abbrev pub OnlyMovesToMerge : Activity → Type 0
+OnlyMovesToMerge (at.ConsolidatorWalk job held) = Unit {0}
+OnlyMovesToMerge (at.ConsolidatorPromote job parent keep gone) = Unit {0}
+OnlyMovesToMerge (at.ConsolidatorKeep job parent keep gone) = Unit {0}
+OnlyMovesToMerge other = ⊥
+
+-- The page is in use, fits a file, and the decider may be asked of it alone.
+abbrev pub IsAskedToMerge : Activity → Page → Type 0
+IsAskedToMerge activity page = (meta : Meta) × IsLayout meta × IsLiveAnd page (λ page. FitsFile meta page × MayAskToMerge activity meta page None None)

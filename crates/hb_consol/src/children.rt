@@ -1,12 +1,15 @@
 //! The children of a parent, found by its child leaves from the left: the first one, and the one behind
 //! another. Nothing is listed, so no memory is asked for.
 
-ghost use Rattle.std.specs.Prelude.{◌≡◌, [], ◌∷◌};
-ghost use Rattle.hb_frag.specs.Leaves.{child_names, leaves};
+ghost use Rattle.std.specs.Prelude.{◌≡◌, ◌<◌, ◌^◌, [], ◌∷◌, length};
+ghost use Rattle.hb_frag.specs.Leaves.{WellCut, child_names, leaves};
+ghost use Rattle.hb_frag.specs.declared.leaves.Leaf.{Leaf as OneLeaf};
 ghost use Rattle.hb_consol.specs.ConsolidatorRows.{children_of, first_one, one_behind};
 ghost use Rattle.hb_consol.specs.Doing.{earlier_of, found_by, is_first, sought, sought_on};
+ghost use Rattle.hb_view.specs.Views.{IsLiveAnd, leaf_view};
 
 use hb_frag::{Frag, Leaf, LivePage, Node};
+use hb_view::{LeafView, PageView};
 
 /// What a search for the child behind another has come to.
 #[derive(Clone, Copy, Debug, PartialEq, Eq)]
@@ -36,6 +39,23 @@ pub(crate) fn first_child(above: &LivePage) -> Option<u32>
     ensures { result ≡ first_one (children_of above.now) }
 {
     first_name(&above.frag)
+}
+
+/// The same of a page that is read from its bytes.
+pub(crate) fn first_child_by_view(view: &PageView<'_>) -> Option<u32>
+    requires cut { IsLiveAnd view.now WellCut }
+    requires few { IsLiveAnd view.now (λ page. length (leaves page.frag) < 2 ^ 32) }
+    ensures { IsLiveAnd view.now (λ page. result ≡ first_one (children_of page)) }
+{
+    for place in 0..u32::MAX {
+        let Some((leaf, _area)) = view.leaf(place) else {
+            return None;
+        };
+        if let Some(name) = name_seen(leaf) {
+            return Some(name);
+        }
+    }
+    None
 }
 
 /// The child of the page that comes behind another. Each child counts where it is named first.
@@ -76,6 +96,17 @@ fn name_of(leaf: &Leaf) -> Option<u32>
     match leaf {
         Leaf::Child(page) => Some(*page),
         Leaf::Records(_) | Leaf::Sibling(_) => None,
+    }
+}
+
+// The name in a child leaf, of which a view tells.
+fn name_seen(leaf: LeafView) -> Option<u32>
+    ensures { (own : OneLeaf) → leaf ≡ leaf_view own → result ≡ first_one (child_names (own ∷ [])) }
+{
+    match leaf {
+        LeafView::Child(page) => Some(page),
+        LeafView::Records => None,
+        LeafView::Sibling(_) => None,
     }
 }
 

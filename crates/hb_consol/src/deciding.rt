@@ -1,17 +1,20 @@
 ghost use Rattle.std.specs.Prelude.{ℕ, Option, Some, IfOk, OnErr};
 ghost use Rattle.std.specs.Option.{option_copied};
 ghost use Rattle.hb_activity.specs.Deciding.{deed_of, given_sight};
-ghost use Rattle.hb_consol.specs.Asks.{AsksMemoryToMerge, MayAskToMerge, pages_given};
+ghost use Rattle.hb_activity.specs.Sights.{Sight};
+ghost use Rattle.hb_consol.specs.Asks.{AsksMemoryToMerge, IsAskedToMerge, MayAskToMerge, OnlyMovesToMerge, pages_given};
 ghost use Rattle.hb_consol.specs.Doing.{HasPair};
 ghost use Rattle.hb_consol.specs.MergeRows.{ConsolidatorRow};
+ghost use Rattle.hb_view.specs.Views.{IsLiveAnd};
 
-use crate::merging::{decide, take_keep, try_pair};
+use crate::merging::{decide, take_keep, take_keep_by_view, try_pair};
 use crate::pairs::Pair;
 use crate::scanning::tries;
-use crate::walking::walk;
+use crate::walking::{walk, walk_by_view};
 use hb_activity::{Activity, Latched, Next};
 use hb_frag::LivePage;
 use hb_space::NoMemory;
+use hb_view::PageView;
 use std::alloc::Global;
 
 /// What a step of the consolidator comes to. The page that the step latched is the page of the walk, the
@@ -64,6 +67,37 @@ pub fn next(
                 _ => unreachable!(),
             }
         }
+        _ => unreachable!(),
+    }
+}
+
+/// What the step of a consolidator comes to that walks to a parent, promotes it, or takes the page to keep, and latched the page
+/// of the number `id`. The page is read from its bytes, so no memory is wanted. It is the row that `next` gives, whatever else
+/// that reads.
+pub fn descend(state: Activity, id: u32, view: &PageView<'_>) -> Next
+    requires moves { OnlyMovesToMerge state }
+    requires asked { IsAskedToMerge state view.now }
+    ensures row { IsLiveAnd view.now (λ page. (s : Sight) → ConsolidatorRow state s id page (deed_of state result)) }
+{
+    match state {
+        Activity::ConsolidatorWalk { job, .. } => walk_by_view(job, id, view),
+        Activity::ConsolidatorPromote {
+            job,
+            parent,
+            keep,
+            gone,
+        } => Next::moves(Activity::ConsolidatorKeep {
+            job,
+            parent,
+            keep,
+            gone,
+        }),
+        Activity::ConsolidatorKeep {
+            job,
+            parent,
+            keep,
+            gone,
+        } => take_keep_by_view(job, parent, keep, gone, view),
         _ => unreachable!(),
     }
 }

@@ -4,6 +4,9 @@
 //! The one contract: a step of the consolidator does one of these rows, which are records over what a row
 //! reads: `specs/ConsolidatorRows.antt`. hb_core joins them with the rows of the other actors.
 //!
+//! `descend` tells the row of a walk, of a promotion and of a page that is taken to be kept, from the bytes of the page that was
+//! latched, and takes no memory; `next` tells each row from pages. They touch nothing themselves.
+//!
 //! Source of the idea: Evangelidis, Lomet and Salzberg 1997.
 #![tactic(auto)]
 
@@ -17,5 +20,5 @@ mod scanning;
 mod walking;
 
 pub use children::{Earlier, Sought};
-pub use deciding::next;
+pub use deciding::{descend, next};
 pub use scanning::Scanned;

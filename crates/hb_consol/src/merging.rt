@@ -7,9 +7,10 @@ ghost use Rattle.hb_activity.specs.declared.activities.Activity.{Activity as One
 ghost use Rattle.hb_consol.specs.Asks.{MergesTwo};
 ghost use Rattle.hb_consol.specs.ConsolidatorRows.{after_try};
 ghost use Rattle.hb_consol.specs.Doing.{PlansMerge};
-ghost use Rattle.hb_consol.specs.MergeRows.{Merges, DoesMerge, takes_keep};
+ghost use Rattle.hb_consol.specs.MergeRows.{Merges, DoesMerge, after_keep, takes_keep};
 ghost use Rattle.hb_frag.specs.declared.pages.LivePage.{LivePage as OnePage};
 ghost use Rattle.hb_terms.specs.declared.merging.MergePlan.{MergePlan as OnePlan};
+ghost use Rattle.hb_view.specs.Views.{IsLiveAnd};
 
 use crate::pairs::Pair;
 use crate::scanning::tries;
@@ -17,8 +18,9 @@ use hb_activity::{Activity, Job, JobKind, Next};
 use hb_frag::{LivePage, capacity_of};
 use hb_layout::Meta;
 use hb_ops::{Op, parent_after};
-use hb_space::NoMemory;
+use hb_space::{Area, NoMemory};
 use hb_terms::{MergePlan, merge_plan};
+use hb_view::PageView;
 use std::alloc::Global;
 
 /// What a try comes to: where the two may become one, the parent is to be promoted. Else the sibling
@@ -50,7 +52,28 @@ pub(crate) fn take_keep(job: Job, parent: u32, keep: u32, gone: u32, page: &Live
     requires { WellCut page.now }
     ensures { (state : OneActivity) → deed_of state result ≡ takes_keep job parent keep gone page.now }
 {
-    match page.sibling_area(gone) {
+    after_keep(job, parent, keep, gone, page.sibling_area(gone))
+}
+
+/// The same of a page to keep that is read from its bytes.
+pub(crate) fn take_keep_by_view(
+    job: Job,
+    parent: u32,
+    keep: u32,
+    gone: u32,
+    view: &PageView<'_>,
+) -> Next
+    requires { IsLiveAnd view.now WellCut }
+    ensures { IsLiveAnd view.now (λ page. (state : OneActivity) → deed_of state result ≡ takes_keep job parent keep gone page) }
+{
+    after_keep(job, parent, keep, gone, view.sibling_area(gone))
+}
+
+// The page to keep gave this box to the page to go, or nothing.
+fn after_keep(job: Job, parent: u32, keep: u32, gone: u32, gave: Option<Area>) -> Next
+    ensures { (state : OneActivity) → deed_of state result ≡ after_keep job parent keep gone gave }
+{
+    match gave {
         None => Next::moves(Activity::ConsolidatorIdle),
         Some(_) => Next::moves(Activity::ConsolidatorDecide {
             job,

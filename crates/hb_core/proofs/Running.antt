@@ -32,6 +32,7 @@ pub mod LiftedRows
 pub mod LiftedMerges
 pub mod SeenRows
 pub mod SeenWalks
+pub mod SeenWorkers
 pub mod Asked
 pub mod Decided
 pub mod DecodedFor

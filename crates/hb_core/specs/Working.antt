@@ -1,8 +1,6 @@
 -- The stages of a step that wants a page or changes the file: what the core shows, and what of the machine is known.
-use Rattle.std.specs.Prelude.{◌≡◌, ◌⊎◌, ℕ, List, Option, Some, None, IsSome, is_some, IfSome, MatchOption}
+use Rattle.std.specs.Prelude.{◌≡◌, ◌⊎◌, ℕ, List, Option, Some, IsSome, is_some, IfSome, MatchOption}
 use Rattle.hb_disk.specs.Model.{DiskModel}
-use Rattle.hb_activity.specs.declared.activities.Activity.{Activity}
-use Rattle.hb_activity.specs.declared.activities.Activity.TheVariants as at
 use Rattle.hb_frag.specs.declared.pages.LivePage.{LivePage}
 use Rattle.hb_store.specs.declared.stops.StopWhy.TheVariants.{Damaged, WriteFault}
 use Rattle.hb_steps.specs.Using.{CameFor, use_number, use_wanted}
@@ -13,14 +11,13 @@ use Rattle.hb_store.specs.States.{StoreState}
 use Rattle.hb_core.specs.declared.halts.Halt.{Halt}
 use Rattle.hb_core.specs.declared.halts.Halt.TheVariants.{GivesUp, Stops}
 use Rattle.hb_steps.specs.Acting.{GivesUpFor, IsBadWanted, MayNeed, NeedsNumber}
-use Rattle.hb_steps.specs.Asking.{HasWayFree, asked_box, wanted_by}
+use Rattle.hb_steps.specs.Asking.{asked_box, wanted_by}
 use Rattle.hb_steps.specs.Fetching.{Brings, IsBadHead, IsFreeHead, IsWantedPage}
 use Rattle.hb_core.specs.Going.{MayGoOn, MayWork}
 use Rattle.hb_steps.specs.Machines.{Machine, next_of, with_disk, with_uses}
 use Rattle.hb_core.specs.Moving.{with_standing}
 use Rattle.hb_steps.specs.Rows.{IsAtHand}
 use Rattle.hb_core.specs.Showing.{RunningCore, ShowsMachine}
-use Rattle.hb_steps.specs.Steps.{IsUnready}
 
 -- A core over a disk shows such a machine.
 pub record MayStep (d : DiskModel) (c : RunningCore) (m : Machine) : Type 0 where

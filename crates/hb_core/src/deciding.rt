@@ -50,33 +50,11 @@ impl<D: Device> Core<D> {
         }
     }
 
-    /// Whether the row of the poster makes a page, if one is free, at the page of this number.
-    fn makes_page(&self, activity: &Activity, id: u32) -> Result<bool, NoMemory>
-        requires { AsksNumber (core_seen self.now).store activity.now id }
-        ensures { IfOk result (λ makes. IsTrue makes ↔ MakesPageAt (core_seen self.now).store activity.now id) }
-    {
-        let page = self.decoded(id)?;
-        let other = self.other(activity)?;
-        let meta = self.store.meta();
-        let above = other.as_ref();
-        Ok(hb_poster::needs_number(self.alloc, activity, &page, above, meta))
-    }
-
     /// The other page that the row reads, with memory of its own: the half that left, or the parent.
-    fn other(&self, activity: &Activity) -> Result<Option<LivePage>, NoMemory>
+    pub(crate) fn other(&self, activity: &Activity) -> Result<Option<LivePage>, NoMemory>
         ensures { IfOk result (λ page. page ≡ other_page (core_seen self.now).store activity.now) }
     {
         match other_of(activity) {
-            Some(id) => self.page_here(id),
-            None => Ok(None),
-        }
-    }
-
-    /// The page to keep, which the row of a consolidator reads besides, with memory of its own.
-    fn second(&self, activity: &Activity) -> Result<Option<LivePage>, NoMemory>
-        ensures { IfOk result (λ page. page ≡ second_page (core_seen self.now).store activity.now) }
-    {
-        match second_of(activity) {
             Some(id) => self.page_here(id),
             None => Ok(None),
         }
@@ -174,12 +152,7 @@ impl<D: Device> Core<D> {
     }
 
     /// What the decider of splits says of this activity.
-    fn part(
-        &self,
-        state: Activity,
-        id: u32,
-        free: Option<(u32, u32)>,
-    ) -> Result<Next, NoMemory>
+    fn part(&self, state: Activity, id: u32, free: Option<(u32, u32)>) -> Result<Next, NoMemory>
         requires halves { ¬ (IsSessionWalk state) }
         requires asks { AsksPoint (core_seen self.now).store state id free }
         ensures { IfOk result (λ next. (place : ℕ) → HasPointRow (core_seen self.now).store state id place (placed place (deed_of state next))) }
@@ -192,45 +165,8 @@ impl<D: Device> Core<D> {
         hb_point::next(self.alloc, state, latched, other.as_ref(), free)
     }
 
-    /// What the poster's decider says of this activity.
-    fn ask_poster(
-        &self,
-        state: Activity,
-        wanted: Option<Wanted>,
-        free: Option<(u32, u32)>,
-    ) -> Result<Next, NoMemory>
-        requires { AsksPoster (core_seen self.now).store state (number_of_row state wanted) free }
-        ensures { IfOk result (λ next. (place : ℕ) →
-            HasPosterRow (core_seen self.now).store state (number_of_row state wanted) place (placed place (deed_of state next))) }
-    {
-        let id = page_of(&state, wanted);
-        let page = self.decoded(id)?;
-        let other = self.other(&state)?;
-        let meta = self.store.meta();
-        let page = &page;
-        let latched = Latched { id, page, meta };
-        hb_poster::next(self.alloc, state, latched, other.as_ref(), free)
-    }
-
-    /// What the consolidator's decider says of this activity.
-    fn ask_merger(&self, state: Activity, wanted: Option<Wanted>) -> Result<Next, NoMemory>
-        requires { AsksMerger (core_seen self.now).store state (number_of_row state wanted) }
-        ensures { IfOk result (λ next. (place : ℕ) →
-            HasMergerRow (core_seen self.now).store state (number_of_row state wanted) place (placed place (deed_of state next))) }
-    {
-        let id = page_of(&state, wanted);
-        let page = self.decoded(id)?;
-        let other = self.other(&state)?;
-        let second = self.second(&state)?;
-        let above = other.as_ref();
-        let kept = second.as_ref();
-        let meta = self.store.meta();
-        let page = &page;
-        hb_consol::next(self.alloc, state, Latched { id, page, meta }, above, kept)
-    }
-
     /// The page of the number, which is in memory and in use, with memory of its own.
-    fn decoded(&self, id: u32) -> Result<LivePage, NoMemory>
+    pub(crate) fn decoded(&self, id: u32) -> Result<LivePage, NoMemory>
         requires { IsSome (live_here (core_seen self.now).store id) }
         ensures { IfOk result (λ page. live_here (core_seen self.now).store id ≡ Some page) }
     {
@@ -241,7 +177,7 @@ impl<D: Device> Core<D> {
     }
 
     /// The page of the number, where it is in memory and in use, with memory of its own.
-    fn page_here(&self, id: u32) -> Result<Option<LivePage>, NoMemory>
+    pub(crate) fn page_here(&self, id: u32) -> Result<Option<LivePage>, NoMemory>
         ensures { IfOk result (λ page. page ≡ live_here (core_seen self.now).store id) }
     {
         match self.store.get(id) {
@@ -319,20 +255,8 @@ fn other_of(activity: &Activity) -> Option<u32>
     }
 }
 
-/// The number of the page to keep, where a pair is tried or decided.
-fn second_of(activity: &Activity) -> Option<u32>
-    ensures { result ≡ second_number activity.now }
-{
-    match activity {
-        Activity::ConsolidatorTry { keep, .. } | Activity::ConsolidatorDecide { keep, .. } => {
-            Some(*keep)
-        }
-        _ => None,
-    }
-}
-
 /// The page that the row speaks of: the wanted one, or the one that is held.
-fn page_of(activity: &Activity, wanted: Option<Wanted>) -> u32
+pub(crate) fn page_of(activity: &Activity, wanted: Option<Wanted>) -> u32
     ensures { result ≡ number_of_row activity.now wanted }
 {
     match (activity, wanted) {

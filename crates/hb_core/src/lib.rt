@@ -27,6 +27,7 @@ pub mod run_laws;
 mod state;
 mod stepping;
 mod threads;
+mod worker_rows;
 mod working;
 
 pub use copies::CopyStop;

@@ -3,3 +3,4 @@ pub mod AllowedPostings
 pub mod WalkExamples
 pub mod PostExamples
 pub mod SiblingLeaves
+pub mod ViewedWalks

@@ -2,7 +2,9 @@
 use Rattle.std.specs.Prelude.{◌≡◌, ◌⊎◌, ℕ, List, [], Option, Some, None}
 use Rattle.hb_space.specs.Boxes.{Area, Holds}
 use Rattle.hb_layout.specs.declared.meta.Meta.{Meta}
+use Rattle.hb_layout.specs.Limits.{IsLayout}
 use Rattle.hb_frag.specs.declared.pages.LivePage.{LivePage}
+use Rattle.hb_frag.specs.declared.pages.Page.{Page}
 use Rattle.hb_frag.specs.declared.paths.Side.{Side}
 use Rattle.hb_ops.specs.Sound.{FitsFile}
 use Rattle.hb_ops.specs.Owing.{LacksRoom, Posts}
@@ -12,6 +14,7 @@ use Rattle.hb_activity.specs.declared.activities.Activity.TheVariants as at
 use Rattle.hb_activity.specs.Deciding.{given_sight}
 use Rattle.hb_activity.specs.Passing.{LeadsBelow, WalksAbove}
 use Rattle.hb_poster.specs.PosterRows.{MayGrow}
+use Rattle.hb_view.specs.Views.{IsLiveAnd}
 
 -- Where the step makes a page, if one is free: the file may get a level, or the parent has no room for what is to be posted.
 abbrev pub MakesPage : Activity → Meta → LivePage → Option LivePage → Type 0
@@ -50,3 +53,13 @@ AsksMemory (at.PosterChild job parent) meta page (Some over) free = PlansPosting
 AsksMemory (at.PosterAgain job parent) meta page (Some over) None = PlansPosting meta job over page
 AsksMemory (at.PosterAgain job parent) meta page (Some over) (Some number) = PlansPosting meta job over page ⊎ LacksRoom over page job.point meta.icap
 AsksMemory other meta page first free = ⊥
+
+-- A poster on its way to a parent, or one that promotes it: its step changes nothing, and reads its page where that lies.
+abbrev pub OnlyMovesOn : Activity → Type 0
+OnlyMovesOn (at.PosterWalk job held) = Unit {0}
+OnlyMovesOn (at.PosterPromote job parent) = Unit {0}
+OnlyMovesOn other = ⊥
+
+-- The page is in use, fits a file, and the decider may be asked of it alone.
+abbrev pub IsAskedOf : Activity → Page → Type 0
+IsAskedOf activity page = (meta : Meta) × IsLayout meta × IsLiveAnd page (λ page. FitsFile meta page × MayBeAsked activity meta page None)

@@ -2,16 +2,19 @@ ghost use Rattle.std.specs.Prelude.{◌≡◌, ◌<◌, ◌↔◌, IsTrue, IfOk,
 ghost use Rattle.std.specs.Option.{option_copied};
 ghost use Rattle.hb_ops.specs.Sound.{FitsFile};
 ghost use Rattle.hb_activity.specs.Deciding.{FitsFree, deed_of, given_pages, given_sight};
-ghost use Rattle.hb_poster.specs.Asks.{AsksMemory, MakesPage, MayBeAsked};
+ghost use Rattle.hb_activity.specs.Sights.{Sight};
+ghost use Rattle.hb_poster.specs.Asks.{AsksMemory, IsAskedOf, MakesPage, MayBeAsked, OnlyMovesOn};
 ghost use Rattle.hb_poster.specs.PosterRows.{PosterRow};
+ghost use Rattle.hb_view.specs.Views.{IsLiveAnd};
 
 use crate::growing::{grow, may_grow};
 use crate::posting::{lacks_room, look, look_again};
-use crate::walking::walk;
+use crate::walking::{walk, walk_by_view};
 use hb_activity::{Activity, Latched, Next};
 use hb_frag::LivePage;
 use hb_layout::Meta;
 use hb_space::NoMemory;
+use hb_view::PageView;
 use std::alloc::Global;
 
 /// What a step of the poster comes to. The page that it latched is the root, the page of the walk, the
@@ -51,6 +54,22 @@ pub fn next(
             Some(over) => look_again(alloc, job, parent, over, latched, free),
             None => unreachable!(),
         },
+        _ => unreachable!(),
+    }
+}
+
+/// What the step of a poster comes to that walks to a parent, or promotes it, and latched the page of the number `id`. The
+/// page is read from its bytes, so no memory is wanted. It is the row that `next` gives, whatever else that reads.
+pub fn descend(state: Activity, id: u32, view: &PageView<'_>) -> Next
+    requires moves { OnlyMovesOn state }
+    requires asked { IsAskedOf state view.now }
+    ensures row { IsLiveAnd view.now (λ page. (s : Sight) → PosterRow state s id page (deed_of state result)) }
+{
+    match state {
+        Activity::PosterWalk { job, .. } => walk_by_view(job, id, view),
+        Activity::PosterPromote { job, parent } => {
+            Next::moves(Activity::PosterAgain { job, parent })
+        }
         _ => unreachable!(),
     }
 }

@@ -4,6 +4,9 @@
 //! The one contract: a step of the poster does one of these rows, which are records over what a row reads
 //! (`specs/PosterRows.antt`). hb_core joins them with the rows of the other actors.
 //!
+//! `descend` tells the row of a walk and of a promotion from the bytes of the page that was latched, and takes no memory; `next`
+//! tells each row from pages. They touch nothing themselves.
+//!
 //! Source of the idea: Lomet and Salzberg 1992, whose index terms are posted late, by an atomic action of
 //! their own.
 #![tactic(auto)]
@@ -15,4 +18,4 @@ pub mod laws;
 mod posting;
 mod walking;
 
-pub use deciding::{needs_number, next};
+pub use deciding::{descend, needs_number, next};

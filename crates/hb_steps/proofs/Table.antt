@@ -12,3 +12,4 @@ pub mod RowFates
 pub mod QueueMoves
 pub mod Causes
 pub mod MemoryTaken
+pub mod MovesOn

@@ -1,7 +1,6 @@
 -- Which page a step asks for, and what it tests of that page before it latches it.
 use Rattle.std.specs.Prelude.{ℕ, List, slice_get, Option, Some, None, IfSome, IsSomeAnd}
 use Rattle.std.specs.Option.{option_and_then, option_map}
-use Rattle.hb_frag.specs.declared.leaves.Leaf.TheVariants.{Records, Child, Sibling}
 use Rattle.hb_frag.specs.declared.pages.LivePage.{LivePage}
 use Rattle.hb_activity.specs.declared.wanting.Wanted.{Wanted}
 use Rattle.hb_activity.specs.declared.activities.Activity.{Activity}

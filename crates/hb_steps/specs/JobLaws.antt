@@ -4,6 +4,7 @@ use Rattle.hb_frag.specs.declared.pages.LivePage.{LivePage}
 use Rattle.hb_terms.specs.declared.merging.MergePlan.TheVariants.{Merge}
 use Rattle.hb_terms.specs.declared.plans.PostPlan.TheVariants.{Nothing, SplitFirst}
 use Rattle.hb_activity.specs.declared.dropping.DropWhy.{DropWhy}
+use Rattle.hb_activity.specs.declared.dropping.DropWhy.TheVariants as drops
 use Rattle.hb_activity.specs.declared.jobs.Job.{Job}
 use Rattle.hb_activity.specs.declared.jobs.JobKind.TheVariants.{Post, Merge}
 use Rattle.hb_activity.specs.declared.waiting_jobs.TheConstants.{JOBS}
@@ -11,8 +12,10 @@ use Rattle.hb_activity.specs.declared.wanting.Wanted.{Wanted}
 use Rattle.hb_activity.specs.declared.activities.Activity.{Activity}
 use Rattle.hb_activity.specs.declared.activities.Activity.TheVariants as at
 use Rattle.hb_activity.specs.Classes.{job_in_work}
+use Rattle.hb_consol.specs.Asks.{OnlyMovesToMerge}
 use Rattle.hb_consol.specs.ConsolidatorRows.{HasMergePlan, children_of, first_one, one_behind, pair_from}
 use Rattle.hb_frag.specs.Leaves.{first_named, siblings_of}
+use Rattle.hb_poster.specs.Asks.{OnlyMovesOn}
 use Rattle.hb_poster.specs.PosterRows.{MayGrow}
 use Rattle.hb_steps.specs.declared.outcomes.Outcome.{Outcome}
 use Rattle.hb_steps.specs.declared.outcomes.Outcome.TheVariants as outcomes
@@ -25,6 +28,10 @@ use Rattle.hb_steps.specs.CauseLaws.{GaveUpFor}
 -- A job is dropped for the same causes.
 abbrev pub DropsByCause : Type 0
 DropsByCause = (m : Machine) (actor : ℕ) (why : DropWhy) (new : Machine) → StepsTo m actor (outcomes.Dropped why) new → GaveUpFor why m actor
+
+-- A worker that only moves on never drops its job for want of memory.
+abbrev pub MoversLackNoMemory : Type 0
+MoversLackNoMemory = (m : Machine) (actor : ℕ) (new : Machine) → StepsTo m actor (outcomes.Dropped drops.NoMemory) new → ¬ (OnlyMovesOn (m.activity actor)) × ¬ (OnlyMovesToMerge (m.activity actor))
 
 -- A job leaves those that wait only by a step of the idle worker of its kind, which has it in work then, or stays idle since the
 -- file isn't higher than the job's level.

@@ -2,7 +2,7 @@
 //! contract of a function that does nothing: a caller learns it by the call.
 
 ghost use Rattle.hb_steps.specs.CauseLaws.{AnswersFirstLine, FullByCause, NoMemoryByCause, OnlySearchesAndSplitsTakeMemory, ReadFaultByCause};
-ghost use Rattle.hb_steps.specs.JobLaws.{DropsByCause, JobsEndByCause, JobsLeaveToWorkers};
+ghost use Rattle.hb_steps.specs.JobLaws.{DropsByCause, JobsEndByCause, JobsLeaveToWorkers, MoversLackNoMemory};
 
 /// A line is answered by a step of its own session, and is that session's first line without an answer.
 #[tactic(auto, using(crate::proofs::Table::Causes::answers_first_line))]
@@ -29,6 +29,13 @@ pub fn only_searches_and_splits_take_memory()
 /// for what the step's row takes.
 pub fn jobs_are_dropped_by_cause()
     ensures { DropsByCause }
+{}
+
+/// A worker never drops its job for want of memory in a step that only moves it on: a walk to a parent, its promotion, or the
+/// look at the page to keep.
+#[tactic(auto, using(crate::proofs::Table::MovesOn::movers_lack_no_memory))]
+pub fn workers_move_without_memory()
+    ensures { MoversLackNoMemory }
 {}
 
 /// A job leaves those that wait only by a step of an idle worker, which has it in work then, or has dropped

@@ -2,7 +2,6 @@
 use Rattle.hb_core.proofs.Facts.Names.{◌≡◌, ℕ, List, [], All, Option, Some, None, IfSome, IsSome, refl, ap, subst, HasSoundFile, Files, Machine, ShowsMachine, begun_core, MayStep, DiskModel, Page, has_value, not_none, FileState, IsSound, AreRising, Line, StoreKeeps, StoreState, in_memory}
 use Rattle.hb_core.proofs.Running.Begun.{begun_shows}
 use Rattle.std.proofs.Common.{is_some}
-use Rattle.std.specs.FinMap as map
 use Rattle.hb_activity.specs.Classes.{idle_of}
 use Rattle.hb_steps.proofs.Machines.Beginnings.{beginning_keeps, beginning_keeps_all}
 use Rattle.hb_steps.specs.KeptFits.{LineFits, class_for}

@@ -5,7 +5,6 @@ use Rattle.hb_steps.proofs.Walks.WorkersKept.{works_held}
 use Rattle.hb_steps.proofs.Memory.BroughtPages.{still_held}
 use Rattle.hb_steps.proofs.Latches.SameLatches.{fit_again, HasHeld, same_modes}
 use Rattle.std.proofs.lemmas.List.Elements.{All-cons, All-nil, All-weaker}
-use Rattle.hb_activity.specs.declared.activities.Activity.TheVariants as at
 use Rattle.hb_activity.specs.declared.jobs.Job.{Job}
 use Rattle.hb_activity.specs.Classes.{job_in_work, line_in_hand}
 use Rattle.hb_frag.specs.declared.pages.Page.TheVariants.{Live}

@@ -9,7 +9,6 @@ use Rattle.hb_core.proofs.Running.Frames.{few_hold}
 use Rattle.hb_core.proofs.Running.Pins.{can_hold, can_unpin}
 use Rattle.hb_core.proofs.Running.ReadsStay.{pinned_so}
 use Rattle.hb_core.proofs.Running.StandsElsewhere.{stands_as}
-use Rattle.hb_activity.specs.declared.activities.Activity.TheVariants as at
 
 -- ---- how often a page is among those of latches
 

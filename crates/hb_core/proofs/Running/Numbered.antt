@@ -101,14 +101,7 @@ none_given m d c actor come not = record {
 pub decodes_as : (m : Machine) (uses : List Use) (wanted : Option Wanted) (activity : Activity) → Decodes wanted (with_uses uses m) activity → Decodes wanted m activity
 decodes_as m uses None (at.SessionWalk line held rest found) decodes = decodes
 decodes_as m uses (Some wanted) (at.SessionWalk line held rest found) (boxes, (page, hand, now)) = (boxes, (page, record { live = hand.live; level = hand.level; box = hand.box }, now))
-decodes_as m uses wanted (at.SessionSplit line held) decodes = decodes
-decodes_as m uses wanted (at.SessionPut line source fresh) decodes = decodes
-decodes_as m uses wanted at.SessionIdle decodes = decodes
-decodes_as m uses wanted (at.SessionAwait number reply place) decodes = decodes
-decodes_as m uses wanted at.PosterIdle decodes = decodes
-decodes_as m uses wanted at.ConsolidatorIdle decodes = decodes
-decodes_as m uses wanted at.Flusher decodes = decodes
-decodes_as m uses wanted worker decodes = tt
+decodes_as m uses wanted other decodes = decodes
 
 -- memory is refused before a number is known to be needed
 pub number_refused : (m : Machine) (d : DiskModel) (c : RunningCore) (actor : ℕ) → IsActor actor → HasCome m actor d c → Decodes (wanted_by m actor) (with_memory c m) (m.activity actor) → HaltsPinned m actor (GivesUp drops.NoMemory) d c

@@ -1,5 +1,5 @@
 -- Where a row's deed is done, its actor may stand as the deed says: nobody is in the way of its latches, and they are on different pages.
-use Rattle.hb_core.proofs.Running.Names.{◌≡◌, ◌≢◌, ◌⊎◌, ℕ, [], ◌∷◌, length, Option, IsSome, IsTrue, refl, sym, ap, ◌∙◌, subst, option_and_then, Mode, IsActor, if_live, Deed, walk_held, StoreState, has_value, if_value, some_value, every_row_backed, AnyPage, wanted_by, Brings, MachineKeeps, Machine, live_here, with_disk, modes, MayStand, MayDo, Row, MayWork, latches_differ}
+use Rattle.hb_core.proofs.Running.Names.{ℕ, length, Option, IsSome, IsTrue, refl, sym, ap, subst, option_and_then, Mode, IsActor, if_live, Deed, walk_held, StoreState, has_value, if_value, some_value, every_row_backed, AnyPage, wanted_by, Brings, MachineKeeps, Machine, live_here, with_disk, modes, MayStand, MayDo, Row, MayWork, latches_differ}
 use Rattle.hb_latch.specs.Modes.{goes_beside}
 use Rattle.hb_steps.proofs.Latches.Beside.{beside_from}
 use Rattle.hb_steps.proofs.Table.NextPlaces.{place_after}

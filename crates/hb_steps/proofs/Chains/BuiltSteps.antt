@@ -6,7 +6,6 @@ use Rattle.std.specs.FinMap as finite
 use Rattle.hb_space.specs.declared.form.TheConstants.{PAGE}
 use Rattle.std.specs.Option.{option_and_then, option_to_list}
 use Rattle.hb_activity.specs.declared.holding.Latch.{Latch}
-use Rattle.hb_steps.specs.declared.outcomes.Outcome.TheVariants as outcomes
 use Rattle.hb_activity.specs.Holding.{held_of}
 use Rattle.hb_activity.specs.Queue.{AddsJobs, LeavesBy}
 use Rattle.hb_activity.specs.Walks.{walk_held}

@@ -1,6 +1,6 @@
 -- What is known of where each actor stands, and stays so while the pages that the actor has latched do: after a step it is to be shown of
 -- the actor that took it alone, where it did a row.
-use Rattle.hb_steps.proofs.Latches.Names.{◌≡◌, ◌≢◌, inl, inr, ℕ, sym, subst, Live, Activity, Deed, StoreState, Outcome, HasWayFree, HoldsPagesOfFile, LatchesFit, Machine, StepsTo, IsActor}
+use Rattle.hb_steps.proofs.Latches.Names.{inl, inr, ℕ, sym, subst, Live, Activity, Deed, StoreState, Outcome, HasWayFree, HoldsPagesOfFile, LatchesFit, Machine, StepsTo, IsActor}
 use Rattle.hb_steps.proofs.Facts.StepKinds.{each_kind, ready_kind}
 use Rattle.hb_steps.proofs.Facts.StillThere.{other_held}
 use Rattle.hb_steps.proofs.Facts.Ways.{KeepsAllButDisk, forces_so, meets_so, more_so, stays_so}

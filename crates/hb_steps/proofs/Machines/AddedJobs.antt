@@ -1,6 +1,5 @@
 -- The jobs that a row adds are of a level above the records, at points of as many attributes as the file's.
-use Rattle.hb_steps.proofs.Machines.Names.{◌≡◌, inl, inr, ℕ, ◌+◌, ◌-◌, ◌*◌, Bool, true, false, cond, List, [], ◌∷◌, length, All, Option, Some, None, IfSome, refl, sym, ap, ◌∙◌, subst, arith, slice_get, option_map, All-append, All-cons, All-head, All-nil, All-tail, LivePage, Command, Insert, Delete, Lookup, Search, Job, Wanted, Activity, job_in_work, line_in_hand, Deed, LeavesBy, goal_of, CommandFits, IsBoxOf, JobFits, LineFits, boxes_left, Machine, sight, Row, same-side_from, Area, side_below, side_from, each_row, All-front}
-use Rattle.std.proofs.Common.{nat_le}
+use Rattle.hb_steps.proofs.Machines.Names.{◌≡◌, inl, inr, ℕ, ◌+◌, ◌-◌, Bool, true, false, cond, List, [], ◌∷◌, length, All, Option, Some, None, IfSome, refl, sym, ap, ◌∙◌, subst, arith, slice_get, option_map, All-append, All-cons, All-head, All-nil, All-tail, LivePage, Command, Insert, Delete, Lookup, Search, Job, Wanted, Activity, job_in_work, line_in_hand, Deed, LeavesBy, goal_of, CommandFits, IsBoxOf, JobFits, LineFits, boxes_left, Machine, sight, Row, same-side_from, Area, side_below, side_from, each_row, All-front}
 use Rattle.std.proofs.lemmas.List.Elements.{All-push}
 use Rattle.hb_frag.specs.declared.leaves.Leaf.{Leaf}
 use Rattle.hb_frag.specs.declared.leaves.Leaf.TheVariants.{Records, Child, Sibling}

@@ -1,5 +1,5 @@
 -- After a step a page that is to be split lacks room for its insert, and of the two halves of a split one has room.
-use Rattle.hb_steps.proofs.Room.Names.{◌≡◌, ◌≢◌, ◌⊎◌, inl, inr, ℕ, ◌==◌, ◌<◌, ◌≤◌, List, [], ◌∷◌, length, Option, Some, None, refl, sym, ap, ◌∙◌, subst, Record, DCAP_MIN, Meta, LivePage, Op, Insert, Line, Activity, Deed, does, TakesFull, now, Brings, MustStay, MetaWithinLimits, HasRoomFor, HoldsPagesOfFile, LacksRoomFor, OneHasRoom, Machine, live_here, MayDo, weight_of, put_page, read_here, StoreState}
+use Rattle.hb_steps.proofs.Room.Names.{◌≡◌, ◌⊎◌, inl, inr, ℕ, ◌<◌, ◌≤◌, List, [], ◌∷◌, length, Option, Some, None, refl, sym, ap, ◌∙◌, subst, Record, DCAP_MIN, Meta, LivePage, Op, Insert, Line, Activity, Deed, does, TakesFull, now, Brings, MustStay, MetaWithinLimits, HasRoomFor, HoldsPagesOfFile, LacksRoomFor, OneHasRoom, Machine, live_here, MayDo, weight_of, put_page, read_here, StoreState}
 use Rattle.hb_steps.proofs.Latches.SameLatches.{HasHeld, live_held}
 use Rattle.hb_steps.proofs.Latches.HeldKept.{each_held}
 use Rattle.std.proofs.lemmas.Option.{none-some}

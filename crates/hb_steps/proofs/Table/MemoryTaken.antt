@@ -1,5 +1,5 @@
 -- Which lines are answered `no memory`: a search, and an insert in a step that splits a page. A lookup or a delete never is.
-use Rattle.hb_steps.proofs.Table.Names.{◌≡◌, inl, inr, ℕ, List, Option, Some, None, IsSomeAnd, refl, sym, subst, none-some, same_Some, Record, Area, LivePage, Command, Insert, Delete, Lookup, Search, Line, DropWhy, Wanted, Activity, line_in_hand, Deed, wanted_by, GaveUpFor, MachineKeeps, Machine, with_disk, Row, at_value, WantsBoxes, next_line, StoreState, Op}
+use Rattle.hb_steps.proofs.Table.Names.{◌≡◌, inl, inr, ℕ, Option, Some, IsSomeAnd, refl, sym, subst, none-some, same_Some, Record, Command, Insert, Delete, Lookup, Search, Line, DropWhy, Wanted, Activity, line_in_hand, Deed, wanted_by, GaveUpFor, MachineKeeps, Machine, with_disk, Row, at_value, WantsBoxes, next_line, StoreState}
 use Rattle.hb_set.specs.declared.commands.Reply.TheVariants as replies
 use Rattle.hb_activity.specs.declared.dropping.DropWhy.TheVariants as drops
 use Rattle.hb_activity.specs.declared.activities.Activity.TheVariants as at

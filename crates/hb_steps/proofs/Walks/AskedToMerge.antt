@@ -1,5 +1,5 @@
 -- The decider of the consolidator may be asked at the page that a kept machine's step has at hand.
-use Rattle.hb_steps.proofs.Walks.Names.{held_come, ◌≡◌, ◌≢◌, inr, ℕ, ◌≤◌, ◌∷◌, [], Option, Some, None, IfSome, IsSome, refl, sym, ap, ◌∙◌, subst, arith, LivePage, IsActor, Job, Activity, job_in_work, walk_held, walk_point, StoreState, AnyPage, Brings, JobFits, StandsAbove, walking_job, MachineKeeps, AtParent, NamesKnown, PairHeld, merging_at, Machine, live_here}
+use Rattle.hb_steps.proofs.Walks.Names.{held_come, ◌≡◌, inr, ℕ, ◌≤◌, ◌∷◌, [], Option, Some, None, IfSome, IsSome, refl, sym, ap, subst, arith, LivePage, IsActor, Job, Activity, job_in_work, walk_held, walk_point, StoreState, AnyPage, Brings, JobFits, StandsAbove, walking_job, MachineKeeps, AtParent, NamesKnown, PairHeld, merging_at, Machine, live_here}
 use Rattle.hb_steps.proofs.Machines.LatchesApart.{pair_apart}
 use Rattle.hb_ops.specs.Sound.{FitsFile}
 use Rattle.hb_activity.specs.declared.activities.Activity.TheVariants as at

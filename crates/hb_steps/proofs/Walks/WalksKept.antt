@@ -1,9 +1,8 @@
 -- After a step the page that a walk holds has the walk's point in its box, and the parent that a poster holds a child leaf there.
-use Rattle.hb_steps.proofs.Walks.Names.{◌≡◌, ◌≢◌, ◌⊎◌, inl, inr, ℕ, ◌==◌, List, [], Option, Some, None, IfSome, IsSome, refl, sym, ap, ◌∙◌, subst, walk_stays, HasHeld, live_held, LivePage, Line, Mode, Update, Exclusive, Job, Activity, Deed, latch_on, LeadsBelow, named_page, IsPointer, Placed, leaf_at, option_and_then, one_value, Leaf, Records, Child, Sibling, walk_held, walk_point, own_there, held_come, HoldsNothing, MergesOn, now, fetched_good, nothing_done, Brings, LatchesFit, WalksInSpace, AtParent, NamesKnown, merging_at, Machine, live_here, latches_held, mode_among, IsActor, first_held, if_live, Holds, StoreState, none-some, at_itself}
+use Rattle.hb_steps.proofs.Walks.Names.{◌≡◌, ◌⊎◌, inl, inr, ℕ, List, [], Option, Some, None, IfSome, IsSome, refl, sym, ap, ◌∙◌, subst, walk_stays, HasHeld, live_held, LivePage, Line, Mode, Update, Exclusive, Job, Activity, Deed, latch_on, LeadsBelow, named_page, IsPointer, Placed, leaf_at, option_and_then, one_value, Leaf, Records, Child, Sibling, walk_held, walk_point, own_there, held_come, HoldsNothing, MergesOn, now, fetched_good, nothing_done, Brings, LatchesFit, WalksInSpace, AtParent, NamesKnown, merging_at, Machine, live_here, latches_held, mode_among, IsActor, first_held, if_live, Holds, StoreState, none-some, at_itself}
 use Rattle.std.proofs.Common.{length}
 use Rattle.hb_steps.proofs.Latches.HeldKept.{each_held}
 use Rattle.hb_activity.specs.declared.activities.Activity.TheVariants as at
-use Rattle.hb_steps.specs.declared.outcomes.Outcome.TheVariants as outcomes
 use Rattle.hb_activity.specs.Wanting.{onward_at}
 use Rattle.hb_lemmas.proofs.Options.{not_none}
 use Rattle.hb_steps.proofs.Walks.MergesKept.{HasMergePlace, PlaceStays, merged_place, named_again, none_named, known_at, place_stays}
@@ -12,7 +11,6 @@ use Rattle.hb_steps.specs.KeepingLaws.{WalksStayInSpace}
 use Rattle.hb_steps.specs.Keeps.{HoldsPagesOfFile}
 use Rattle.hb_steps.specs.Performing.{MayDo}
 use Rattle.hb_lemmas.proofs.Lists.{not_empty}
-use Rattle.hb_lemmas.proofs.Booleans.{at_other}
 
 abbrev pub IsAtParent : Activity → Job → ℕ → Type 0
 IsAtParent activity job parent = (activity ≡ at.PosterChild job parent) ⊎ (activity ≡ at.PosterPromote job parent) ⊎ (activity ≡ at.PosterAgain job parent)

@@ -1,5 +1,5 @@
 -- After a step a walking worker's job is below the file's height, and its page of the job's level or above it.
-use Rattle.hb_steps.proofs.Walks.Names.{◌≡◌, ◌≢◌, ◌⊎◌, inl, inr, ℕ, ◌<◌, ◌≤◌, ◌==◌, Option, Some, None, IfSome, refl, sym, ap, ◌∙◌, subst, arith, LatchesFit, walk_stays, HasHeld, none-some, same_Some, Leaf, Records, Child, Sibling, LivePage, Live, Meta, Job, Activity, Outcome, Deed, LeadsBelow, walk_held, nothing_done, GaveAwayAt, StandsAbove, walking_job, MachineKeeps, Machine, live_here, with_disk, Performs, StepsTo, IsPointer, leaf_at, IsActor, if_live, Area, StoreState}
+use Rattle.hb_steps.proofs.Walks.Names.{◌≡◌, ◌⊎◌, inl, inr, ℕ, ◌<◌, ◌≤◌, Option, Some, None, IfSome, refl, sym, ap, ◌∙◌, subst, arith, LatchesFit, walk_stays, HasHeld, none-some, same_Some, Leaf, Records, Child, Sibling, LivePage, Live, Meta, Job, Activity, Outcome, Deed, LeadsBelow, walk_held, nothing_done, GaveAwayAt, StandsAbove, walking_job, MachineKeeps, Machine, live_here, with_disk, Performs, StepsTo, IsPointer, leaf_at, IsActor, if_live, Area, StoreState}
 use Rattle.hb_steps.proofs.Facts.StillThere.{other_held}
 use Rattle.hb_consol.specs.ConsolidatorRows.{IsMergingOf}
 use Rattle.hb_steps.proofs.Table.DeedKinds.{each_again, each_deed}

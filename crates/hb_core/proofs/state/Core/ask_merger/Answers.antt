@@ -1,13 +1,15 @@
-use Rattle.std.proofs.Common.{◌∙◌}
 use Rattle.std.proofs.lemmas.Result.{IfOk-weaker}
 use Rattle.hb_activity.specs.Deciding.{deed_of}
 use Rattle.hb_store.specs.Seen.{seen_as}
 use Rattle.hb_steps.specs.Looking.{number_of_row}
-use Rattle.hb_core.proofs.Running.SeenRows.{merger_said}
+use Rattle.hb_core.proofs.Running.SeenWorkers.{merger_back}
 use Rattle.hb_core.proofs.state.Core.ask_merger.Goals as goal
 
-pub returns : goal.returns
-returns g c =
-    IfOk-weaker c.next.result _ _ (λ next row.
-    merger_said (seen_as c.args.self.now.store) c.args.state (number_of_row c.args.state c.args.wanted) c.page_of-id.result _ _ _ c.meta-meta.result.now
-    c.page_of-id.ensures c.in_ok-page.ensures (c.as_ref-above.ensures.value ∙ c.in_ok-other.ensures) (c.as_ref-kept.ensures.value ∙ c.in_ok-second.ensures) c.meta-meta.ensures.meta (deed_of c.args.state next) row) c.next.ensures.row
+pub returns-then-only_moves_to_merge-clause-row : goal.returns-then-only_moves_to_merge-clause-row
+returns-then-only_moves_to_merge-clause-row g c =
+    merger_back (seen_as c.args.self.now.store) c.args.state (number_of_row c.args.state c.args.wanted) c.page_of-id.result c.page_of-id.ensures (deed_of c.args.state c.move_to_merge.result) c.move_to_merge.ensures
+
+pub returns-clause-row : goal.returns-clause-row
+returns-clause-row g c =
+    IfOk-weaker c.pair.result _ _ (λ next.
+    merger_back (seen_as c.args.self.now.store) c.args.state (number_of_row c.args.state c.args.wanted) c.page_of-id.result c.page_of-id.ensures (deed_of c.args.state next)) c.pair.ensures

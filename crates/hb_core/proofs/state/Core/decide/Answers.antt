@@ -1,7 +1,6 @@
 use Rattle.std.proofs.Common.{length, sym, ap, ◌∙◌}
 use Rattle.std.proofs.lemmas.Bool.{false≢true, ne_eqb}
 use Rattle.std.proofs.lemmas.Result.{IfOk-weaker, on_err_weaker}
-use Rattle.hb_lemmas.proofs.Options.{on_err}
 use Rattle.hb_activity.specs.declared.activities.Activity.{Activity}
 use Rattle.hb_activity.specs.Deciding.{deed_of}
 use Rattle.hb_core.proofs.Running.Decided.{decided_merger, decided_poster, decided_search, decided_session, may_ask_merger, may_ask_poster, may_ask_searcher, may_ask_session}
@@ -48,12 +47,12 @@ returns-then-actor-eq-POSTER-clause-row g c =
     IfOk-weaker c.ask_poster.result _ _ (λ next row m has.
     decided_poster (g.D.Device.model (core_disk c.args.self.now)) (core_seen c.args.self.now) m c.args.actor c.args.free c.requires.actor has c.replace-state.result c.args.wanted (core_seen c.replace-state.new.self).store
     (λ (activity : Activity). placed (length m.order) (deed_of activity next)) c.replace-state.ensures.old (c.requires.wanted m has) (ap (λ (core : RunningCore). core.store) c.replace-state.ensures.new.does)
-    c.if-actor-eq-POSTER.true (row (length m.order))) c.ask_poster.ensures
+    c.if-actor-eq-POSTER.true (row (length m.order))) c.ask_poster.ensures.row
 
 pub returns-then-actor-eq-POSTER-clause-memory : goal.returns-then-actor-eq-POSTER-clause-memory
 returns-then-actor-eq-POSTER-clause-memory g c =
-    on_err c.ask_poster.result (λ m has.
-    poster_decodes (g.D.Device.model (core_disk c.args.self.now)) (core_seen c.args.self.now) m c.args.actor c.args.free c.requires.actor has c.replace-state.result c.replace-state.ensures.old c.if-actor-eq-POSTER.true)
+    on_err_weaker c.ask_poster.result (λ stays m has.
+    poster_decodes (g.D.Device.model (core_disk c.args.self.now)) (core_seen c.args.self.now) m c.args.actor c.args.free c.requires.actor has c.replace-state.result c.replace-state.ensures.old c.if-actor-eq-POSTER.true stays) c.ask_poster.ensures.memory
 
 pub returns-else-actor-eq-CONSOLIDATOR-clause-row : goal.returns-else-actor-eq-CONSOLIDATOR-clause-row
 returns-else-actor-eq-CONSOLIDATOR-clause-row g c =
@@ -78,9 +77,9 @@ returns-then-actor-eq-CONSOLIDATOR-clause-row g c =
     IfOk-weaker c.ask_merger.result _ _ (λ next row m has.
     decided_merger (g.D.Device.model (core_disk c.args.self.now)) (core_seen c.args.self.now) m c.args.actor c.args.free c.requires.actor has c.replace-state.result c.args.wanted (core_seen c.replace-state.new.self).store
     (λ (activity : Activity). placed (length m.order) (deed_of activity next)) c.replace-state.ensures.old (c.requires.wanted m has) (ap (λ (core : RunningCore). core.store) c.replace-state.ensures.new.does)
-    c.if-actor-eq-CONSOLIDATOR.true (row (length m.order))) c.ask_merger.ensures
+    c.if-actor-eq-CONSOLIDATOR.true (row (length m.order))) c.ask_merger.ensures.row
 
 pub returns-then-actor-eq-CONSOLIDATOR-clause-memory : goal.returns-then-actor-eq-CONSOLIDATOR-clause-memory
 returns-then-actor-eq-CONSOLIDATOR-clause-memory g c =
-    on_err c.ask_merger.result (λ m has.
-    merger_decodes (g.D.Device.model (core_disk c.args.self.now)) (core_seen c.args.self.now) m c.args.actor c.args.free c.requires.actor has c.replace-state.result c.replace-state.ensures.old c.if-actor-eq-CONSOLIDATOR.true)
+    on_err_weaker c.ask_merger.result (λ stays m has.
+    merger_decodes (g.D.Device.model (core_disk c.args.self.now)) (core_seen c.args.self.now) m c.args.actor c.args.free c.requires.actor has c.replace-state.result c.replace-state.ensures.old c.if-actor-eq-CONSOLIDATOR.true stays) c.ask_merger.ensures.memory

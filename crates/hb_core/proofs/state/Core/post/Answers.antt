@@ -1,0 +1,17 @@
+use Rattle.std.proofs.Common.{refl, ◌∙◌}
+use Rattle.std.proofs.lemmas.Result.{IfOk-weaker}
+use Rattle.hb_activity.specs.Deciding.{deed_of}
+use Rattle.hb_store.specs.Seen.{seen_as}
+use Rattle.hb_core.proofs.Running.SeenRows.{poster_free, poster_said}
+use Rattle.hb_core.proofs.state.Core.post.Goals as goal
+
+pub next-requires-clause-free : goal.next-requires-clause-free
+next-requires-clause-free g c =
+    poster_free (seen_as c.args.self.now.store) c.args.state c.args.id c.args.free c.args.id _ _ c.meta-meta.result.now
+    refl c.in_ok-page.ensures (c.as_ref.ensures.value ∙ c.in_ok-other.ensures) c.meta-meta.ensures.meta c.requires
+
+pub returns : goal.returns
+returns g c =
+    IfOk-weaker c.next.result _ _ (λ next row.
+    poster_said (seen_as c.args.self.now.store) c.args.state c.args.id c.args.free c.args.id _ _ c.meta-meta.result.now
+    refl c.in_ok-page.ensures (c.as_ref.ensures.value ∙ c.in_ok-other.ensures) c.meta-meta.ensures.meta c.requires (deed_of c.args.state next) row) c.next.ensures.row
