@@ -1,120 +1,151 @@
 //! Which points a box holds, how two boxes lie, and what they have in common; boxes that are cut, and what of
 //! one lies outside another; points, bodies and records that are kept.
 
-ghost use Rattle.std.specs.Prelude.{◌≡◌, IfOk, length};
+ghost use Rattle.std.specs.Prelude.{◌≡◌, IsTrue, length};
 
-use crate::drawn::{push_area, push_record};
-use crate::spelled::{area_of, halves, point_from};
+use crate::drawn::{say_area, say_record};
+use crate::replies::Reply;
+use crate::spelled::{area_of, between as box_between, point_from};
 use hb_space::form::KMAX;
-use hb_space::{Area, Body, NoMemory, Point, Record, Records};
+use hb_space::{Area, Body, Point, Record, Records};
 use std::alloc::Global;
-use std::test::Fail;
 
-fn box_text(alloc: Global, area: &Area) -> Result<String, NoMemory> {
-    let mut text = "box".to_string(alloc)?;
-    push_area(&mut text, area)?;
-    Ok(text)
+fn say_box(reply: &mut Reply, area: &Area) {
+    reply.say("box");
+    say_area(reply, area);
 }
 
 /// The whole space, copied: from `ATTRIBUTES`.
-pub(crate) fn whole(alloc: Global, question: &str) -> Result<String, Fail> {
-    let k: u8 = question.parse()?;
+pub(crate) fn whole(reply: &mut Reply, question: &str) {
+    let k = reply.read_u8(question);
     if k < 1 || KMAX < usize::from(k) {
-        return Err("no such space".into());
+        return reply.need(false);
     }
-    Ok(box_text(alloc, &Area::whole(k).clone()?)?)
+    match Area::whole(k).clone() {
+        Ok(area) => say_box(reply, &area),
+        Err(_) => reply.need(false),
+    }
 }
 
 /// The box of a point: from `POINT`.
-pub(crate) fn alone(alloc: Global, question: &str) -> Result<String, Fail> {
-    Ok(box_text(alloc, &Area::of_point(&point_from(question)?))?)
+pub(crate) fn alone(reply: &mut Reply, question: &str) {
+    let point = point_from(reply, question);
+    say_box(reply, &Area::of_point(&point));
+}
+
+fn say_between(reply: &mut Reply, lo: Point, hi: Point) {
+    reply.need(lo.attributes() == hi.attributes());
+    reply.truth(box_between(lo, hi).is_some());
 }
 
 /// Whether there is a box between two corners: from `POINT | POINT`.
-pub(crate) fn between(alloc: Global, question: &str) -> Result<String, Fail> {
-    let (lo, hi) = halves(question, " | ", "no upper corner")?;
-    let (lo, hi) = (point_from(lo)?, point_from(hi)?);
-    if lo.attributes() != hi.attributes() {
-        return Err("corners of different spaces".into());
-    }
-    Ok(format!(in alloc; "{}", Area::between(lo, hi).is_some())?)
+pub(crate) fn between(reply: &mut Reply, question: &str) {
+    let (lo, hi) = reply.parts(question, " | ");
+    let lo = point_from(reply, lo);
+    let hi = point_from(reply, hi);
+    say_between(reply, lo, hi);
 }
 
-fn is_held(area: &Area, point: &Point) -> Result<bool, Fail> {
+fn say_held(reply: &mut Reply, area: &Area, point: &Point) {
     if area.lo().attributes() != point.attributes() {
-        return Err("a point of another space".into());
+        return reply.need(false);
     }
-    Ok(area.holds(point))
+    reply.truth(area.holds(point));
 }
 
 /// Whether a box holds a point: from `BOX | POINT`.
-pub(crate) fn holds(alloc: Global, question: &str) -> Result<String, Fail> {
-    let (area, point) = halves(question, " | ", "no point")?;
-    let held = is_held(&area_of(area)?, &point_from(point)?)?;
-    Ok(format!(in alloc; "{held}")?)
+pub(crate) fn holds(reply: &mut Reply, question: &str) {
+    let (area, point) = reply.parts(question, " | ");
+    let area = area_of(reply, area);
+    let point = point_from(reply, point);
+    say_held(reply, &area, &point);
 }
 
-// Two boxes of as many attributes.
-fn two_of(text: &str) -> Result<(Area, Area), Fail>
-    ensures { IfOk result (λ two. length two.0.lo ≡ length two.1.lo) }
+fn two_of(reply: &mut Reply, text: &str) -> (Area, Area) {
+    let (first, second) = reply.parts(text, " | ");
+    (area_of(reply, first), area_of(reply, second))
+}
+
+// Whether two boxes have as many attributes, which they have to.
+fn are_alike(reply: &mut Reply, first: &Area, second: &Area) -> bool
+    ensures { IsTrue result → length first.now.lo ≡ length second.now.lo }
 {
-    let (first, second) = halves(text, " | ", "no second box")?;
-    let first = area_of(first)?;
-    let second = area_of(second)?;
-    if first.lo().attributes() == second.lo().attributes() {
-        Ok((first, second))
-    } else {
-        Err("boxes of different spaces".into())
+    let are_alike = first.lo().attributes() == second.lo().attributes();
+    reply.need(are_alike);
+    are_alike
+}
+
+fn say_how_they_lie(reply: &mut Reply, first: &Area, second: &Area) {
+    if are_alike(reply, first, second) {
+        reply.truth(first.meets(second));
+        reply.say(" ");
+        reply.truth(second.meets(first));
+        reply.say(" ");
+        reply.truth(first.within(second));
     }
 }
 
 /// Whether two boxes meet, the second and the first, and whether the first lies within the second: from `BOX | BOX`.
-pub(crate) fn lie(alloc: Global, question: &str) -> Result<String, Fail> {
-    let (first, second) = two_of(question)?;
-    let there = first.meets(&second);
-    let back = second.meets(&first);
-    let within = first.within(&second);
-    Ok(format!(in alloc; "{there} {back} {within}")?)
+pub(crate) fn lie(reply: &mut Reply, question: &str) {
+    let (first, second) = two_of(reply, question);
+    say_how_they_lie(reply, &first, &second);
+}
+
+fn say_common(reply: &mut Reply, first: &Area, second: &Area) {
+    if are_alike(reply, first, second) {
+        match first.common(second) {
+            Some(area) => say_box(reply, &area),
+            None => reply.say("none"),
+        }
+    }
 }
 
 /// What two boxes have in common: from `BOX | BOX`.
-pub(crate) fn common(alloc: Global, question: &str) -> Result<String, Fail> {
-    let (first, second) = two_of(question)?;
-    match first.common(&second) {
-        Some(area) => Ok(box_text(alloc, &area)?),
-        None => Ok("none".to_string(alloc)?),
-    }
+pub(crate) fn common(reply: &mut Reply, question: &str) {
+    let (first, second) = two_of(reply, question);
+    say_common(reply, &first, &second);
 }
 
-fn sides(alloc: Global, area: &Area, axis: u8, value: u64) -> Result<String, NoMemory> {
+fn say_sides(reply: &mut Reply, area: &Area, axis: u8, value: u64) {
     if !area.cuts(axis, value) {
-        return "none".to_string(alloc);
+        return reply.say("none");
     }
     let (below, from) = area.cut(axis, value);
-    let mut text = box_text(alloc, &below)?;
-    text.push_str(" box")?;
-    push_area(&mut text, &from)?;
-    Ok(text)
+    say_box(reply, &below);
+    reply.say(" ");
+    say_box(reply, &from);
 }
 
 /// The two sides of a plane in a box: from `BOX | ATTRIBUTE VALUE`.
-pub(crate) fn cut(alloc: Global, question: &str) -> Result<String, Fail> {
-    let (area, plane) = halves(question, " | ", "no plane")?;
-    let (axis, value) = halves(plane, " ", "no value")?;
-    let (axis, value) = (axis.parse()?, value.parse()?);
-    Ok(sides(alloc, &area_of(area)?, axis, value)?)
+pub(crate) fn cut(reply: &mut Reply, question: &str) {
+    let (area, plane) = reply.parts(question, " | ");
+    let (axis, value) = reply.parts(plane, " ");
+    let (axis, value) = (reply.read_u8(axis), reply.read(value));
+    let area = area_of(reply, area);
+    say_sides(reply, &area, axis, value);
+}
+
+fn say_boxes(reply: &mut Reply, pieces: &[Area]) {
+    reply.say("boxes");
+    for piece in pieces {
+        reply.say(" :");
+        say_area(reply, piece);
+    }
+}
+
+fn say_outside(reply: &mut Reply, first: &Area, second: &Area) {
+    if are_alike(reply, first, second) {
+        match first.outside(reply.alloc, second) {
+            Ok(pieces) => say_boxes(reply, pieces.as_slice()),
+            Err(_) => reply.need(false),
+        }
+    }
 }
 
 /// What of a box lies outside another: from `BOX | BOX`.
-pub(crate) fn outside(alloc: Global, question: &str) -> Result<String, Fail> {
-    let (first, second) = two_of(question)?;
-    let pieces = first.outside(alloc, &second)?;
-    let mut text = "boxes".to_string(alloc)?;
-    for piece in pieces.as_slice() {
-        text.push_str(" :")?;
-        push_area(&mut text, piece)?;
-    }
-    Ok(text)
+pub(crate) fn outside(reply: &mut Reply, question: &str) {
+    let (first, second) = two_of(reply, question);
+    say_outside(reply, &first, &second);
 }
 
 pub(crate) const ROWS: &str = "
@@ -162,34 +193,36 @@ copied: 7 8 9 => 3 7=8=9=ab 3 7=8=9=ab 2
 ";
 
 // A record, its point and its body, each twice.
-fn copies(alloc: Global, record: Record) -> Result<Records, Fail> {
-    let key = record.key.clone()?;
-    let body = record.body.clone()?;
+fn copies(alloc: Global, record: &Record) -> Option<Records> {
+    let key = record.key.clone().ok()?;
+    let body = record.body.clone().ok()?;
     let mut records = Vec::new(alloc);
-    records.push(record.copy())?;
-    records.push(Record { key, body })?;
-    Ok(Records::new(records))
+    records.push(record.copy()).ok()?;
+    records.push(Record { key, body }).ok()?;
+    Some(Records::new(records))
 }
 
-fn kept(alloc: Global, records: &Records) -> Result<String, NoMemory> {
-    let mut text = String::new(alloc);
+fn say_kept(reply: &mut Reply, records: &Records) {
     for record in records.as_slice() {
-        write!(text, "{} ", record.key.attributes())?;
-        push_record(&mut text, record)?;
-        text.push(' ')?;
+        reply.number(u64::from(record.key.attributes()));
+        reply.say(" ");
+        say_record(reply, record);
+        reply.say(" ");
     }
-    Ok(text)
 }
 
 /// A record of this point with the body `ab`, copied: how many attributes it has, and itself, twice; and how many records there
 /// are then.
-pub(crate) fn copied(alloc: Global, question: &str) -> Result<String, Fail> {
+pub(crate) fn copied(reply: &mut Reply, question: &str) {
     let record = Record {
-        key: point_from(question)?,
+        key: point_from(reply, question),
         body: Body::new(b"ab"),
     };
-    let records = copies(alloc, record)?;
-    let mut text = kept(alloc, &records)?;
-    write!(text, "{}", records.into_vec().len())?;
-    Ok(text)
+    match copies(reply.alloc, &record) {
+        Some(records) => {
+            say_kept(reply, &records);
+            reply.number(records.into_vec().len() as u64);
+        }
+        None => reply.need(false),
+    }
 }

@@ -7,8 +7,8 @@
 //! `ATTRIBUTE>COUNT`, cuts at 1, 2 up to COUNT, each the right side of the one before, with an empty leaf of records as
 //! their left sides; or `PAGE^COUNT`, as many child leaves, to PAGE, PAGE + 1 and on.
 
-use std::alloc::Global;
-use std::test::Fail;
+use crate::replies::Reply;
+use hb_space::form::PAGE;
 
 // What a name stands for.
 fn named(word: &str) -> &str {
@@ -54,89 +54,128 @@ fn named(word: &str) -> &str {
     }
 }
 
-fn push_many(bytes: &mut Vec<u8>, count: u32, items: &str) -> Result<(), Fail> {
-    for _ in 0..count {
-        for item in items.split(',') {
-            bytes.push(item.parse()?)?;
-        }
-    }
-    Ok(())
+fn add(reply: &mut Reply, bytes: &mut Vec<u8>, byte: u8) {
+    let is_done = bytes.push(byte).is_ok();
+    reply.need(is_done);
 }
 
-fn put_byte(bytes: &mut [u8], at: usize, byte: u8) -> Result<(), Fail> {
+fn add_all(reply: &mut Reply, bytes: &mut Vec<u8>, more: &[u8]) {
+    let is_done = bytes.extend_from_slice(more).is_ok();
+    reply.need(is_done);
+}
+
+fn add_each(reply: &mut Reply, bytes: &mut Vec<u8>, items: &str) {
+    for item in items.split(',') {
+        add_word(reply, bytes, item);
+    }
+}
+
+fn add_many(reply: &mut Reply, bytes: &mut Vec<u8>, count: &str, items: &str) {
+    for _ in 0..reply.read_u32(count) {
+        add_each(reply, bytes, items);
+    }
+}
+
+fn put_byte(reply: &mut Reply, bytes: &mut [u8], at: &str, byte: &str) {
+    let at = reply.read(at) as usize;
     if at >= bytes.len() {
-        return Err("no such place".into());
+        return reply.need(false);
     }
-    bytes[at] = byte;
-    Ok(())
+    bytes[at] = reply.read_u8(byte);
 }
 
-fn push_cut(bytes: &mut Vec<u8>, axis: u8, value: u64) -> Result<(), Fail> {
-    bytes.extend_from_slice(&[0, axis])?;
-    Ok(bytes.extend_from_slice(&value.to_be_bytes())?)
+fn add_cut(reply: &mut Reply, bytes: &mut Vec<u8>, axis: u8, value: u64) {
+    add_all(reply, bytes, &[0, axis]);
+    add_all(reply, bytes, &value.to_be_bytes());
 }
 
-fn push_lefts(bytes: &mut Vec<u8>, axis: u8, count: u64) -> Result<(), Fail> {
-    for value in (1..=count).rev() {
-        push_cut(bytes, axis, value)?;
+fn add_lefts(reply: &mut Reply, bytes: &mut Vec<u8>, axis: &str, count: &str) {
+    let axis = reply.read_u8(axis);
+    for value in (1..=reply.read(count)).rev() {
+        add_cut(reply, bytes, axis, value);
     }
-    Ok(())
 }
 
-fn push_rights(bytes: &mut Vec<u8>, axis: u8, count: u64) -> Result<(), Fail> {
-    for value in 1..=count {
-        push_cut(bytes, axis, value)?;
-        bytes.extend_from_slice(&[1, 0, 0])?;
+fn add_empty_leaf(reply: &mut Reply, bytes: &mut Vec<u8>) {
+    add_all(reply, bytes, &[1, 0, 0]);
+}
+
+fn add_rights(reply: &mut Reply, bytes: &mut Vec<u8>, axis: &str, count: &str) {
+    let axis = reply.read_u8(axis);
+    for value in 1..=reply.read(count) {
+        add_cut(reply, bytes, axis, value);
+        add_empty_leaf(reply, bytes);
     }
-    Ok(())
 }
 
-fn push_children(bytes: &mut Vec<u8>, first: u32, count: u32) -> Result<(), Fail> {
-    for place in 0..count {
-        let page = first.checked_add(place).ok_or("no such page")?;
-        bytes.push(2)?;
-        bytes.extend_from_slice(&page.to_be_bytes())?;
+fn add_child(reply: &mut Reply, bytes: &mut Vec<u8>, page: Option<u32>) {
+    reply.need(page.is_some());
+    add(reply, bytes, 2);
+    add_all(reply, bytes, &page.unwrap_or(0).to_be_bytes());
+}
+
+fn add_children(reply: &mut Reply, bytes: &mut Vec<u8>, first: &str, count: &str) {
+    let first = reply.read_u32(first);
+    for place in 0..reply.read_u32(count) {
+        add_child(reply, bytes, first.checked_add(place));
     }
-    Ok(())
 }
 
-fn push_nodes(bytes: &mut Vec<u8>, word: &str) -> Result<(), Fail> {
+fn add_word(reply: &mut Reply, bytes: &mut Vec<u8>, word: &str) {
+    let byte = reply.read_u8(word);
+    add(reply, bytes, byte);
+}
+
+fn add_nodes(reply: &mut Reply, bytes: &mut Vec<u8>, word: &str) {
     if let Some((axis, count)) = word.split_once('<') {
-        return push_lefts(bytes, axis.parse()?, count.parse()?);
+        return add_lefts(reply, bytes, axis, count);
     }
     if let Some((axis, count)) = word.split_once('>') {
-        return push_rights(bytes, axis.parse()?, count.parse()?);
+        return add_rights(reply, bytes, axis, count);
     }
     match word.split_once('^') {
-        Some((first, count)) => push_children(bytes, first.parse()?, count.parse()?),
-        None => Ok(bytes.push(word.parse()?)?),
+        Some((first, count)) => add_children(reply, bytes, first, count),
+        None => add_word(reply, bytes, word),
     }
 }
 
-fn push_word(bytes: &mut Vec<u8>, word: &str) -> Result<(), Fail> {
+// Cuts the bytes off at a length, or fills them up with zeros.
+fn fit(reply: &mut Reply, bytes: &mut Vec<u8>, length: usize) {
+    let is_done = bytes.resize(length, 0).is_ok();
+    reply.need(is_done);
+}
+
+fn add_items(reply: &mut Reply, bytes: &mut Vec<u8>, word: &str) {
     if let Some(length) = word.strip_prefix('@') {
-        return Ok(bytes.resize(length.parse()?, 0)?);
+        let length = reply.read(length) as usize;
+        return fit(reply, bytes, length);
     }
     if let Some((at, byte)) = word.split_once(':') {
-        return put_byte(bytes, at.parse()?, byte.parse()?);
+        return put_byte(reply, bytes, at, byte);
     }
     match word.split_once('*') {
-        Some((count, items)) => push_many(bytes, count.parse()?, items),
-        None => push_nodes(bytes, word),
+        Some((count, items)) => add_many(reply, bytes, count, items),
+        None => add_nodes(reply, bytes, word),
     }
 }
 
-fn push_words(bytes: &mut Vec<u8>, words: &str) -> Result<(), Fail> {
+fn add_words(reply: &mut Reply, bytes: &mut Vec<u8>, words: &str) {
     for word in words.split_whitespace() {
-        push_word(bytes, word)?;
+        add_items(reply, bytes, word);
     }
-    Ok(())
 }
 
-pub(crate) fn bytes_of(alloc: Global, text: &str) -> Result<Vec<u8>, Fail> {
-    let mut bytes = Vec::new(alloc);
+pub(crate) fn bytes_of(reply: &mut Reply, text: &str) -> Vec<u8> {
+    let mut bytes = Vec::new(reply.alloc);
     for word in text.split_whitespace() {
-        push_words(&mut bytes, named(word))?;
+        add_words(reply, &mut bytes, named(word));
     }
-    Ok(bytes)
+    bytes
+}
+
+/// The same with zeros behind them up to the length of a page.
+pub(crate) fn page_bytes_of(reply: &mut Reply, text: &str) -> Vec<u8> {
+    let mut bytes = bytes_of(reply, text);
+    fit(reply, &mut bytes, PAGE);
+    bytes
 }

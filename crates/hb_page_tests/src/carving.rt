@@ -2,35 +2,40 @@
 
 ghost use Rattle.std.specs.Prelude.{◌≡◌};
 
-use crate::drawn::{frag_text, push_frag};
-use crate::spelled::{area_of, frag_of, halves};
+use crate::drawn::say_frag;
+use crate::replies::Reply;
+use crate::spelled::{area_of, frag_of};
 use hb_frag::{Frag, Leaf, Node, carve, carved_weight, normal};
-use hb_space::{Area, Body, NoMemory, Point, Record, Records};
-use std::alloc::Global;
-use std::test::Fail;
+use hb_space::Area;
 
-fn carved_text(alloc: Global, leaf: &Area, inner: &Area) -> Result<String, Fail> {
+fn say_carved(reply: &mut Reply, leaf: &Area, inner: &Area) {
     if leaf.lo().attributes() != inner.lo().attributes() || !leaf.meets(inner) {
-        return Err("not a posting".into());
+        return reply.need(false);
     }
-    let mut text = format!(in alloc; "{} ", carved_weight(leaf, inner))?;
-    push_frag(&mut text, &carve(alloc, leaf, inner, 1, 2)?)?;
-    Ok(text)
+    reply.number(u64::from(carved_weight(leaf, inner)));
+    reply.say(" ");
+    match carve(reply.alloc, leaf, inner, 1, 2) {
+        Ok(frag) => say_frag(reply, &frag),
+        Err(_) => reply.need(false),
+    }
 }
 
 /// What a leaf of child 1 weighs, and then is, once child 2 is named over what the leaf's box has in
 /// common with another one, from `BOX by BOX`.
-pub(crate) fn carved(alloc: Global, question: &str) -> Result<String, Fail> {
-    let (leaf, inner) = halves(question, " by ", "no box")?;
-    let leaf = area_of(leaf)?;
-    let inner = area_of(inner)?;
-    carved_text(alloc, &leaf, &inner)
+pub(crate) fn carved(reply: &mut Reply, question: &str) {
+    let (leaf, inner) = reply.parts(question, " by ");
+    let leaf = area_of(reply, leaf);
+    let inner = area_of(reply, inner);
+    say_carved(reply, &leaf, &inner);
 }
 
 /// A tree without cuts that part nothing.
-pub(crate) fn joined(alloc: Global, question: &str) -> Result<String, Fail> {
-    let frag = normal(alloc, frag_of(alloc, question)?)?;
-    Ok(frag_text(alloc, &frag)?)
+pub(crate) fn joined(reply: &mut Reply, question: &str) {
+    let frag = frag_of(reply, question);
+    match normal(reply.alloc, frag) {
+        Ok(frag) => say_frag(reply, &frag),
+        Err(_) => reply.need(false),
+    }
 }
 
 pub(crate) const ROWS: &str = "
@@ -72,31 +77,16 @@ normal: ( ( 5=a |0:1| >9 ) |0:1| 3=b ) => ( ( 5=a |0:1| >9 ) |0:1| 3=b )
 chain: 100 => true
 ";
 
-fn record_at(value: u64) -> Record {
-    let key = Point::new(&[value]);
-    let body = Body::new(b"body");
-    Record { key, body }
-}
-
-fn leaf_at(alloc: Global, value: u64) -> Result<Frag, NoMemory> {
-    let mut records = Vec::new(alloc);
-    records.push(record_at(value))?;
-    Ok(Frag::tip(Leaf::Records(Records::new(records))))
-}
-
-fn cut(alloc: Global, left: Frag, right: Frag) -> Result<Frag, NoMemory> {
-    let left = Box::new(alloc, left)?;
-    let right = Box::new(alloc, right)?;
-    Ok(Frag::cut(0, 1, left, right))
-}
-
-// So many cuts, each with a record on its left side whose point is greater than all behind it.
-fn chain(alloc: Global, last: u64) -> Result<Frag, NoMemory> {
-    let mut frag = leaf_at(alloc, 0)?;
-    for value in 1..=last {
-        frag = cut(alloc, leaf_at(alloc, value)?, frag)?;
+// Says a tree of so many cuts, each with a record on its left side whose point is greater than all behind it.
+fn say_chain(reply: &mut Reply, last: u64) {
+    for value in (1..=last).rev() {
+        reply.marked("( ", value);
+        reply.say("=body |0:1| ");
     }
-    Ok(frag)
+    reply.say("0=body");
+    for _ in 0..last {
+        reply.say(" )");
+    }
 }
 
 // Whether the tree is one leaf of records, of the points from 0 to the last one in their order.
@@ -114,8 +104,14 @@ fn is_in_order(frag: &Frag, last: u64) -> bool {
 }
 
 /// Whether such a chain becomes one leaf: from `LAST`.
-pub(crate) fn chained(alloc: Global, question: &str) -> Result<String, Fail> {
-    let last = question.parse()?;
-    let frag = normal(alloc, chain(alloc, last)?)?;
-    Ok(format!(in alloc; "{}", is_in_order(&frag, last))?)
+pub(crate) fn chained(reply: &mut Reply, question: &str) {
+    let last = reply.read(question);
+    let mut tree = Reply::new(reply.alloc);
+    say_chain(&mut tree, last);
+    reply.need_whole(&tree);
+    let frag = frag_of(reply, tree.text());
+    match &normal(reply.alloc, frag) {
+        Ok(frag) => reply.truth(is_in_order(frag, last)),
+        Err(_) => reply.need(false),
+    }
 }

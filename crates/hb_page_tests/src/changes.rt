@@ -1,52 +1,48 @@
 //! Changes of pages of one attribute by each kind of operation, merges of pages of four, and rules that a page breaks.
 
-ghost use Rattle.std.specs.Prelude.{◌≡◌, ◌<◌, ◌≤◌, ◌^◌, IfOk, IfSome};
+ghost use Rattle.std.specs.Prelude.{◌≡◌, ◌≤◌};
 ghost use Rattle.hb_space.specs.declared.form.TheConstants.{KMAX};
-ghost use Rattle.hb_frag.specs.Leaves.{weight_of};
 ghost use Rattle.hb_ops.specs.Operations.{OpHas};
 
-use crate::drawn::push_page;
+use crate::drawn::say_page;
 use crate::operations::{merge_of, op_of};
-use crate::spelled::{halves, page_of};
-use hb_frag::LivePage;
+use crate::replies::Reply;
+use crate::spelled::page_of;
+use hb_frag::{LivePage, Page};
 use hb_ops::{ChangeError, Changed, Meta, Op, change, local_rule};
-use hb_space::NoMemory;
-use std::alloc::Global;
-use std::test::Fail;
 
 // A file of one attribute, from the weight that a page of level 0 may have, how many pages the file
 // may have, its highest page, the pages in use, its free head and its height. A number that isn't there
 // is 6, 8, 3, 3, 0 and 2.
-fn file_of(text: &str) -> Result<Meta, Fail>
-    ensures { IfOk result (λ meta. meta.k ≡ 1) }
+fn file_of(reply: &mut Reply, text: &str) -> Meta
+    ensures { result.k ≡ 1 }
 {
     let mut numbers = [6u32, 8, 3, 3, 0, 2];
     for (number, word) in numbers.iter_mut().zip(text.split_whitespace()) {
-        *number = word.parse()?;
+        *number = reply.read_u32(word);
     }
     let [dcap, pages, high, live, free, height] = numbers;
-    Ok(Meta {
+    reply.need(dcap < 1 << 16 && height < 1 << 8);
+    Meta {
         k: 1,
         log: 0,
         icap: 4,
         root: 1,
-        dcap: dcap.try_into()?,
+        dcap: dcap.try_into().unwrap_or(0),
         pages,
         high,
         live,
         free,
-        height: height.try_into()?,
-    })
+        height: height.try_into().unwrap_or(0),
+    }
 }
 
 // No page, or the one of the text.
-fn standing(alloc: Global, text: &str) -> Result<Option<LivePage>, Fail>
-    ensures { IfOk result (λ page. IfSome page (λ p. weight_of p.frag < 2 ^ 32)) }
-{
+fn standing(reply: &mut Reply, text: &str) -> Option<LivePage> {
     if text == "none" {
-        Ok(None)
+        None
     } else {
-        Ok(Some(page_of(alloc, text)?))
+        Some(page_of(reply, text))
     }
 }
 
@@ -59,106 +55,97 @@ struct Pages {
 }
 
 // The pages of the text, with ` & ` between them. One that isn't there is none.
-fn pages_of(alloc: Global, text: &str) -> Result<Pages, Fail> {
+fn pages_of(reply: &mut Reply, text: &str) -> Pages {
     let (first, others) = text.split_once(" & ").unwrap_or((text, "none"));
     let (second, third) = others.split_once(" & ").unwrap_or((others, "none"));
-    let first = standing(alloc, first)?;
-    let second = standing(alloc, second)?;
-    let third = standing(alloc, third)?;
-    Ok(Pages {
-        first,
-        second,
-        third,
-    })
+    Pages {
+        first: standing(reply, first),
+        second: standing(reply, second),
+        third: standing(reply, third),
+    }
 }
 
-// The operation is taken by value: one that lives on has to be let go behind each `?`.
-fn change_of(alloc: Global, op: Op, meta: &Meta, pages: &Pages) -> Result<Changed, ChangeError>
-    requires some { 1 ≤ meta.now.k }
-    requires few { meta.now.k ≤ KMAX }
-    requires points { OpHas meta.now.k op }
-{
-    let (first, second) = (pages.first.as_ref(), pages.second.as_ref());
-    change(alloc, &op, meta, first, second, pages.third.as_ref())
+fn say_one(reply: &mut Reply, id: u32, page: &Page) {
+    if !reply.text().is_empty() {
+        reply.say("; ");
+    }
+    reply.marked("page ", u64::from(id));
+    reply.say(" ");
+    say_page(reply, page);
 }
 
 // Each page that changed, and what the file says of itself where that changed.
-fn push_changed(text: &mut String, meta: &Meta, changed: &Changed) -> Result<(), NoMemory> {
+fn say_changed(reply: &mut Reply, meta: &Meta, changed: &Changed) {
     for (id, page) in &changed.pages {
-        if !text.is_empty() {
-            text.push_str("; ")?;
-        }
-        write!(text, "page {id} ")?;
-        push_page(text, page)?;
+        say_one(reply, *id, page);
     }
-    if changed.meta == *meta {
-        return Ok(());
+    if changed.meta != *meta {
+        say_file(reply, &changed.meta);
     }
-    let said = &changed.meta;
-    write!(
-        text,
-        "; file {} {} {} {} {}",
-        said.root, said.height, said.high, said.live, said.free
-    )
 }
 
-fn outcome(
-    alloc: Global,
-    meta: &Meta,
-    changed: Result<Changed, ChangeError>,
-) -> Result<String, NoMemory> {
-    match changed {
-        Ok(changed) => {
-            let mut text = String::new(alloc);
-            push_changed(&mut text, meta, &changed)?;
-            Ok(text)
-        }
-        Err(error) => format!(in alloc; "{error:?}"),
+fn say_file(reply: &mut Reply, file: &Meta) {
+    reply.marked("; file ", u64::from(file.root));
+    reply.marked(" ", u64::from(file.height));
+    reply.marked(" ", u64::from(file.high));
+    reply.marked(" ", u64::from(file.live));
+    reply.marked(" ", u64::from(file.free));
+}
+
+fn say_outcome(reply: &mut Reply, meta: &Meta, pages: &Pages, op: &Op)
+    requires some { 1 ≤ meta.now.k }
+    requires few { meta.now.k ≤ KMAX }
+    requires points { OpHas meta.now.k op.now }
+{
+    let (first, second) = (pages.first.as_ref(), pages.second.as_ref());
+    match &change(reply.alloc, op, meta, first, second, pages.third.as_ref()) {
+        Ok(changed) => say_changed(reply, meta, changed),
+        Err(ChangeError::Unfit) => reply.say("Unfit"),
+        Err(ChangeError::NoMemory) => reply.need(false),
     }
 }
 
 /// What an operation makes of the pages that it reads, from `FILE | PAGES | OPERATION`. Where it changes what the file
 /// says of itself, that is told as the root, the height, the highest page, the pages in use and the
 /// free head.
-pub(crate) fn changed(alloc: Global, question: &str) -> Result<String, Fail> {
-    let (file, rest) = halves(question, " | ", "no page")?;
-    let (page, op) = halves(rest, " | ", "no operation")?;
-    let meta = file_of(file)?;
-    let pages = pages_of(alloc, page)?;
-    let op = op_of(alloc, op)?;
-    Ok(outcome(alloc, &meta, change_of(alloc, op, &meta, &pages))?)
+pub(crate) fn changed(reply: &mut Reply, question: &str) {
+    let (file, rest) = reply.parts(question, " | ");
+    let (pages, op) = reply.parts(rest, " | ");
+    let meta = file_of(reply, file);
+    let pages = pages_of(reply, pages);
+    let op = op_of(reply, op);
+    say_outcome(reply, &meta, &pages, &op);
 }
 
 /// What a merge makes of pages of four attributes in a file of three levels, from `PARENT & KEEP & GONE | NUMBERS`.
-pub(crate) fn merged(alloc: Global, question: &str) -> Result<String, Fail> {
-    let (pages, numbers) = halves(question, " | ", "no numbers")?;
+pub(crate) fn merged(reply: &mut Reply, question: &str) {
+    let (pages, numbers) = reply.parts(question, " | ");
     let meta = Meta {
         k: 4,
         icap: 32,
         height: 3,
-        ..file_of("")?
+        ..file_of(reply, "")
     };
-    let pages = pages_of(alloc, pages)?;
-    let op = merge_of(numbers)?;
-    Ok(outcome(alloc, &meta, change_of(alloc, op, &meta, &pages))?)
+    let pages = pages_of(reply, pages);
+    let op = merge_of(reply, numbers);
+    say_outcome(reply, &meta, &pages, &op);
 }
 
 /// The first rule that a page breaks by itself. 0 where it keeps them all.
-pub(crate) fn rule(alloc: Global, question: &str) -> Result<String, Fail> {
-    let meta = file_of("")?;
-    let page = page_of(alloc, question)?;
+pub(crate) fn rule(reply: &mut Reply, question: &str) {
+    let meta = file_of(reply, "");
+    let page = page_of(reply, question);
     let rule = local_rule(&page, &meta).unwrap_or(0);
-    Ok(format!(in alloc; "{rule}")?)
+    reply.number(u64::from(rule));
 }
 
 /// How many pages an operation reads, and their numbers.
-pub(crate) fn reads(alloc: Global, question: &str) -> Result<String, Fail> {
-    let reads = op_of(alloc, question)?.reads();
-    let mut text = format!(in alloc; "{}", reads.len())?;
+pub(crate) fn reads(reply: &mut Reply, question: &str) {
+    let reads = op_of(reply, question).reads();
+    reply.number(reads.len() as u64);
     for id in &reads {
-        write!(text, " {id}")?;
+        reply.marked(" ", u64::from(*id));
     }
-    Ok(text)
 }
 
 pub(crate) const ROWS: &str = "

@@ -1,83 +1,84 @@
 //! Boxes and pages as text, in the form in which `spelled` reads them.
 
+use crate::replies::Reply;
 use hb_frag::{Frag, Leaf, LivePage, Node, Page};
-use hb_space::{Area, NoMemory, Record};
-use std::alloc::Global;
+use hb_space::{Area, Record};
 
-pub(crate) fn push_area(text: &mut String, area: &Area) -> Result<(), NoMemory> {
+fn say_span(reply: &mut Reply, lo: u64, hi: u64) {
+    reply.marked(" ", lo);
+    reply.say("..");
+    if hi != u64::MAX {
+        reply.number(hi);
+    }
+}
+
+pub(crate) fn say_area(reply: &mut Reply, area: &Area) {
     for (lo, hi) in area.lo().values().iter().zip(area.hi().values()) {
-        write!(text, " {lo}..")?;
-        if *hi != u64::MAX {
-            write!(text, "{hi}")?;
-        }
+        say_span(reply, *lo, *hi);
     }
-    Ok(())
 }
 
-pub(crate) fn push_record(text: &mut String, record: &Record) -> Result<(), NoMemory> {
+pub(crate) fn say_record(reply: &mut Reply, record: &Record) {
     for value in record.key.values() {
-        write!(text, "{value}=")?;
+        reply.number(*value);
+        reply.say("=");
     }
-    for byte in record.body.bytes() {
-        text.push(char::from(*byte))?;
-    }
-    Ok(())
+    reply.letters(record.body.bytes());
 }
 
-fn push_records(text: &mut String, records: &[Record]) -> Result<(), NoMemory> {
+fn say_records(reply: &mut Reply, records: &[Record]) {
     let mut mark = "";
     for record in records {
-        text.push_str(mark)?;
-        push_record(text, record)?;
+        reply.say(mark);
+        say_record(reply, record);
         mark = ",";
     }
-    Ok(())
 }
 
-pub(crate) fn push_leaf(text: &mut String, leaf: &Leaf) -> Result<(), NoMemory> {
+pub(crate) fn say_leaf(reply: &mut Reply, leaf: &Leaf) {
     match leaf {
-        Leaf::Child(page) => write!(text, "^{page}"),
-        Leaf::Sibling(page) => write!(text, ">{page}"),
-        Leaf::Records(records) if records.as_slice().is_empty() => text.push('-'),
-        Leaf::Records(records) => push_records(text, records.as_slice()),
+        Leaf::Child(page) => reply.marked("^", u64::from(*page)),
+        Leaf::Sibling(page) => reply.marked(">", u64::from(*page)),
+        Leaf::Records(records) if records.as_slice().is_empty() => reply.say("-"),
+        Leaf::Records(records) => say_records(reply, records.as_slice()),
     }
 }
 
-pub(crate) fn push_frag(text: &mut String, frag: &Frag) -> Result<(), NoMemory> {
+fn say_plane(reply: &mut Reply, axis: u8, value: u64) {
+    reply.marked(" |", u64::from(axis));
+    reply.marked(":", value);
+    reply.say("| ");
+}
+
+pub(crate) fn say_frag(reply: &mut Reply, frag: &Frag) {
     match &frag.node {
-        Node::Tip(leaf) => push_leaf(text, leaf),
+        Node::Tip(leaf) => say_leaf(reply, leaf),
         Node::Cut {
             axis,
             value,
             left,
             right,
         } => {
-            text.push_str("( ")?;
-            push_frag(text, left)?;
-            write!(text, " |{axis}:{value}| ")?;
-            push_frag(text, right)?;
-            text.push_str(" )")
+            reply.say("( ");
+            say_frag(reply, left);
+            say_plane(reply, *axis, *value);
+            say_frag(reply, right);
+            reply.say(" )");
         }
     }
 }
 
-pub(crate) fn frag_text(alloc: Global, frag: &Frag) -> Result<String, NoMemory> {
-    let mut text = String::new(alloc);
-    push_frag(&mut text, frag)?;
-    Ok(text)
-}
-
-fn push_live(text: &mut String, page: &LivePage) -> Result<(), NoMemory> {
-    write!(text, "{}", page.level)?;
-    push_area(text, &page.area)?;
-    text.push_str(" : ")?;
-    push_frag(text, &page.frag)
+fn say_live(reply: &mut Reply, page: &LivePage) {
+    reply.number(u64::from(page.level));
+    say_area(reply, &page.area);
+    reply.say(" : ");
+    say_frag(reply, &page.frag);
 }
 
 /// A page as `LEVEL BOX : TREE`, or as `free NEXT`.
-pub(crate) fn push_page(text: &mut String, page: &Page) -> Result<(), NoMemory> {
+pub(crate) fn say_page(reply: &mut Reply, page: &Page) {
     match page {
-        Page::Live(page) => push_live(text, page),
-        Page::Free { next } => write!(text, "free {next}"),
+        Page::Live(page) => say_live(reply, page),
+        Page::Free { next } => reply.marked("free ", u64::from(*next)),
     }
 }

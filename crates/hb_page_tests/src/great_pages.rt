@@ -10,132 +10,118 @@ ghost use Rattle.hb_frag.specs.Leaves.{WellCut};
 ghost use Rattle.hb_frag.specs.declared.pages.Page.TheVariants.{Live};
 ghost use Rattle.hb_view.specs.Views.{IsLiveAnd};
 
-use crate::bytes::bytes_of;
-use crate::drawn::push_area;
-use crate::spelled::{halves, point_from};
-use crate::views::{push_found, push_leaf, reaches};
+use crate::bytes::page_bytes_of;
+use crate::drawn::say_area;
+use crate::replies::Reply;
+use crate::spelled::point_from;
+use crate::views::{reaches, say_found, say_leaf, say_rule};
 use hb_frag::{LivePage, Page};
-use hb_space::form::PAGE;
-use hb_space::{Area, NoMemory, Point};
+use hb_space::{Area, Point};
 use hb_view::PageView;
-use std::alloc::Global;
-use std::test::Fail;
 
-fn push_first(text: &mut String, area: Option<Area>) -> Result<(), NoMemory> {
+fn say_first(reply: &mut Reply, area: Option<Area>) {
     match area {
-        Some(area) => push_area(text, &area),
-        None => text.push_str(" none"),
+        Some(area) => say_area(reply, &area),
+        None => reply.say(" none"),
     }
 }
 
-fn push_named(text: &mut String, view: &PageView<'_>, id: u32) -> Result<(), NoMemory>
+fn say_named(reply: &mut Reply, view: &PageView<'_>, id: u32)
     requires { IsLiveAnd view.now WellCut }
 {
-    text.push_str("sibling")?;
-    push_first(text, view.sibling_area(id))?;
-    text.push_str(", child")?;
-    push_first(text, view.child_area(id))
+    reply.say("sibling");
+    say_first(reply, view.sibling_area(id));
+    reply.say(", child");
+    say_first(reply, view.child_area(id));
 }
 
-fn push_place(text: &mut String, view: &PageView<'_>, place: u32) -> Result<(), NoMemory>
+fn say_place(reply: &mut Reply, view: &PageView<'_>, place: u32)
     requires { IsLiveAnd view.now WellCut }
 {
     match view.leaf(place) {
         Some((leaf, area)) => {
-            push_leaf(text, leaf)?;
-            push_area(text, &area)
+            say_leaf(reply, leaf);
+            say_area(reply, &area);
         }
-        None => text.push_str("none"),
+        None => reply.say("none"),
     }
 }
 
-fn push_leaves(
-    text: &mut String,
-    view: &PageView<'_>,
-    word: &str,
-    number: u32,
-) -> Result<(), NoMemory>
-    requires { IsLiveAnd view.now WellCut }
-{
-    if word == "named" {
-        push_named(text, view, number)
-    } else {
-        push_place(text, view, number)
-    }
-}
-
-fn push_rule(
-    text: &mut String,
-    view: &PageView<'_>,
-    page: &LivePage,
-    capacities: (u16, u16),
-) -> Result<(), NoMemory>
+fn say_leaves(reply: &mut Reply, view: &PageView<'_>, page: &LivePage, word: &str, number: u32)
     requires { view.now ≡ Live page.now }
 {
-    write!(text, "{} {}", view.level(), view.weight())?;
-    let (dcap, icap) = capacities;
-    match view.broken(page.area.lo().attributes(), 2, dcap, icap) {
-        None => text.push_str(" ok"),
-        Some(rule) => write!(text, " {rule}"),
+    if !page.is_well_cut() {
+        return reply.need(false);
+    }
+    if word == "named" {
+        say_named(reply, view, number);
+    } else {
+        say_place(reply, view, number);
     }
 }
 
-fn push_point(
-    text: &mut String,
-    view: &PageView<'_>,
-    page: &LivePage,
-    point: &Point,
-) -> Result<(), Fail>
+// The level and the weight, and the first rule that is broken where pages may weigh so much.
+fn say_broken(reply: &mut Reply, view: &PageView<'_>, page: &LivePage, capacities: (u16, u16))
+    requires { view.now ≡ Live page.now }
+{
+    reply.number(u64::from(view.level()));
+    reply.marked(" ", u64::from(view.weight()));
+    let (dcap, icap) = capacities;
+    say_rule(
+        reply,
+        view.broken(page.area.lo().attributes(), 2, dcap, icap),
+    );
+}
+
+fn say_point(reply: &mut Reply, view: &PageView<'_>, page: &LivePage, point: &Point)
     requires { view.now ≡ Live page.now }
 {
     if !reaches(page, point) {
-        return Err("not in the page's box".into());
+        return reply.need(false);
     }
-    push_found(text, view, point)?;
-    Ok(write!(text, " {}", view.count_at(point))?)
+    say_found(reply, view, point);
+    reply.marked(" ", u64::from(view.count_at(point)));
 }
 
-fn push_asked(
-    text: &mut String,
-    view: &PageView<'_>,
-    page: &LivePage,
-    asked: &str,
-) -> Result<(), Fail>
+fn capacities_of(reply: &mut Reply, text: &str) -> (u16, u16) {
+    let (dcap, icap) = reply.parts(text, " ");
+    (reply.read_u16(dcap), reply.read_u16(icap))
+}
+
+fn say_asked(reply: &mut Reply, view: &PageView<'_>, page: &LivePage, asked: &str)
     requires { view.now ≡ Live page.now }
 {
-    let (word, rest) = halves(asked, " ", "no word")?;
-    if word == "at" {
-        return push_point(text, view, page, &point_from(rest)?);
+    let (word, rest) = reply.parts(asked, " ");
+    match word {
+        "at" => {
+            let point = point_from(reply, rest);
+            say_point(reply, view, page, &point);
+        }
+        "rule" => {
+            let capacities = capacities_of(reply, rest);
+            say_broken(reply, view, page, capacities);
+        }
+        _ => {
+            let number = reply.read_u32(rest);
+            say_leaves(reply, view, page, word, number);
+        }
     }
-    if word == "rule" {
-        let (dcap, icap) = halves(rest, " ", "one capacity")?;
-        return Ok(push_rule(text, view, page, (dcap.parse()?, icap.parse()?))?);
-    }
-    if !page.is_well_cut() {
-        return Err("badly cut".into());
-    }
-    Ok(push_leaves(text, view, word, rest.parse()?)?)
 }
 
-fn live_text(alloc: Global, view: &PageView<'_>, asked: &str) -> Result<String, Fail> {
-    match view.page(alloc)? {
-        Page::Free { .. } => Err("a free page".into()),
-        Page::Live(page) => {
-            let mut text = String::new(alloc);
-            push_asked(&mut text, view, &page, asked)?;
-            Ok(text)
-        }
+fn say_live(reply: &mut Reply, view: &PageView<'_>, asked: &str) {
+    match view.page(reply.alloc) {
+        Ok(Page::Live(page)) => say_asked(reply, view, &page, asked),
+        _ => reply.need(false),
     }
 }
 
 /// What a view tells of some bytes, with zeros behind them up to the length of a page.
-pub(crate) fn asked(alloc: Global, question: &str) -> Result<String, Fail> {
-    let (bytes, asked) = halves(question, " ? ", "nothing asked")?;
-    let mut bytes = bytes_of(alloc, bytes)?;
-    bytes.resize(PAGE, 0)?;
+pub(crate) fn asked(reply: &mut Reply, question: &str) {
+    let (bytes, asked) = reply.parts(question, " ? ");
+    let bytes = page_bytes_of(reply, bytes);
     match PageView::checked(&bytes) {
-        Some(view) => live_text(alloc, &view, asked),
-        None => Err("no page".into()),
+        Some(view) => say_live(reply, &view, asked),
+        None => reply.need(false),
     }
 }
 

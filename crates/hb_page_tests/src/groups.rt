@@ -5,60 +5,60 @@ ghost use Rattle.hb_log_codec.specs.Groups.{FitsGroup};
 ghost use Rattle.hb_log_codec.specs.Reading.{logged};
 
 use crate::bytes::bytes_of;
-use crate::drawn::push_page;
-use crate::operations::push_op;
+use crate::drawn::say_page;
+use crate::operations::say_op;
+use crate::replies::Reply;
 use hb_log_codec::{Group, GroupsError, decode_all, encode};
-use hb_space::{Attributes, NoMemory};
-use std::alloc::Global;
-use std::test::Fail;
+use hb_space::Attributes;
 
-fn written(alloc: Global, groups: &[Group]) -> Result<Vec<u8>, NoMemory>
+// The bytes of the groups.
+fn written(reply: &mut Reply, groups: &[Group]) -> Vec<u8>
     requires { All (λ g. FitsGroup 1 (logged g)) groups.now }
 {
-    let mut bytes = Vec::new(alloc);
+    let mut bytes = Vec::new(reply.alloc);
     for group in groups {
-        encode(group, 1, &mut bytes)?;
+        let is_done = encode(group, 1, &mut bytes).is_ok();
+        reply.need(is_done);
     }
-    Ok(bytes)
+    bytes
 }
 
 // The page images of a group, and its operation.
-fn push_group(text: &mut String, group: &Group) -> Result<(), NoMemory> {
+fn say_group(reply: &mut Reply, group: &Group) {
     for (id, page) in &group.images {
-        write!(text, "image {id} ")?;
-        push_page(text, page)?;
-        text.push_str(", ")?;
+        reply.marked("image ", u64::from(*id));
+        reply.say(" ");
+        say_page(reply, page);
+        reply.say(", ");
     }
-    push_op(text, &group.op)
+    say_op(reply, &group.op);
 }
 
-fn groups_text(alloc: Global, groups: &[Group]) -> Result<String, NoMemory> {
-    let mut text = format!(in alloc; "{}", groups.len())?;
+fn say_groups(reply: &mut Reply, groups: &[Group]) {
+    reply.number(groups.len() as u64);
     for group in groups {
-        text.push_str("; ")?;
-        push_group(&mut text, group)?;
+        reply.say("; ");
+        say_group(reply, group);
     }
-    Ok(text)
 }
 
-fn read(alloc: Global, bytes: &[u8]) -> Result<String, Fail> {
-    match decode_all(alloc, bytes, Attributes { number: 1 }) {
+fn read(reply: &mut Reply, bytes: &[u8]) {
+    match decode_all(reply.alloc, bytes, Attributes { number: 1 }) {
         Ok(groups) => {
-            if written(alloc, &groups)?.as_slice() != bytes {
-                return Err("written otherwise".into());
-            }
-            Ok(groups_text(alloc, &groups)?)
+            let again = written(reply, &groups);
+            reply.need(again.as_slice() == bytes);
+            say_groups(reply, &groups);
         }
-        Err(GroupsError::BadBytes { at }) => Ok(format!(in alloc; "none at {at}")?),
-        Err(GroupsError::NoMemory) => Err("no memory".into()),
+        Err(GroupsError::BadBytes { at }) => reply.marked("none at ", at as u64),
+        Err(GroupsError::NoMemory) => reply.need(false),
     }
 }
 
 /// How many groups the bytes spell, and the groups; or where the first one begins that is none. The
 /// spelling of the groups has to be these bytes.
-pub(crate) fn groups(alloc: Global, question: &str) -> Result<String, Fail> {
-    let bytes = bytes_of(alloc, question)?;
-    read(alloc, &bytes)
+pub(crate) fn groups(reply: &mut Reply, question: &str) {
+    let bytes = bytes_of(reply, question);
+    read(reply, &bytes);
 }
 
 pub(crate) const ROWS: &str = "

@@ -1,13 +1,11 @@
 //! Where the parts of files stand, worked out by hand.
 
-use crate::spelled::halves;
+use crate::replies::Reply;
 use hb_layout::{Meta, file_size, log_start, page_offset, slot_offset};
-use std::alloc::Global;
-use std::test::Fail;
 
 // A file of these pages, with log areas of so many bytes.
-fn file_of(pages: u32, log: u32) -> Result<Meta, Fail> {
-    let file = Meta {
+fn file_of(pages: u32, log: u32) -> Meta {
+    Meta {
         k: 1,
         pages,
         log,
@@ -18,32 +16,31 @@ fn file_of(pages: u32, log: u32) -> Result<Meta, Fail> {
         high: 1,
         live: 1,
         free: 0,
-    };
-    if file.is_layout() {
-        Ok(file)
-    } else {
-        Err("not a layout".into())
     }
+}
+
+fn say_offsets(reply: &mut Reply, file: &Meta) {
+    if !file.is_layout() || file.pages < 1 {
+        return reply.need(false);
+    }
+    reply.number(log_start(2, file));
+    reply.marked(" ", log_start(3, file));
+    reply.marked(" ", page_offset(file, 1));
+    reply.marked(" ", page_offset(file, file.pages));
+    reply.marked(" ", file_size(file));
 }
 
 /// Where the two log areas, the first page and the last one begin, and how long the file is: from `PAGES LOG`.
-pub(crate) fn offsets(alloc: Global, question: &str) -> Result<String, Fail> {
-    let (pages, log) = halves(question, " ", "no log")?;
-    let file = file_of(pages.parse()?, log.parse()?)?;
-    if file.pages < 1 {
-        return Err("no page".into());
-    }
-    let first = log_start(2, &file);
-    let second = log_start(3, &file);
-    let mut text = format!(in alloc; "{first} {second} ")?;
-    let (least, last) = (page_offset(&file, 1), page_offset(&file, file.pages));
-    write!(text, "{least} {last} {}", file_size(&file))?;
-    Ok(text)
+pub(crate) fn offsets(reply: &mut Reply, question: &str) {
+    let (pages, log) = reply.parts(question, " ");
+    let file = file_of(reply.read_u32(pages), reply.read_u32(log));
+    say_offsets(reply, &file);
 }
 
 /// Where the superblock of a turn stands.
-pub(crate) fn slot(alloc: Global, question: &str) -> Result<String, Fail> {
-    Ok(format!(in alloc; "{}", slot_offset(question.parse()?))?)
+pub(crate) fn slot(reply: &mut Reply, question: &str) {
+    let turn = reply.read_u8(question);
+    reply.number(slot_offset(turn));
 }
 
 pub(crate) const ROWS: &str = "

@@ -5,7 +5,7 @@
 //! A table has rows, each `QUESTION => ANSWER`. The modules `boxes` to `plans` have the
 //! tables of one library each, and what answers their questions. `rows` goes through them in the one
 //! test, since each test is proved too. `spelled` and `drawn` turn text into pages, boxes and
-//! operations, and back.
+//! operations, and back, and `replies` keeps what is said of a row.
 //!
 //! Each answer was worked out by hand.
 #![tactic(auto)]
@@ -34,6 +34,8 @@ mod pages;
 mod places;
 #[cfg(test)]
 mod plans;
+#[cfg(test)]
+mod replies;
 #[cfg(test)]
 mod rows;
 #[cfg(test)]

@@ -5,209 +5,225 @@
 //! free head afterwards. Cuts are `ATTRIBUTE SIDE VALUE` without blanks, as `0L30`, with `,` between
 //! them, or `-` for none.
 
-ghost use Rattle.std.specs.Prelude.{◌≡◌, IfOk, length};
+ghost use Rattle.std.specs.Prelude.{◌≡◌, length};
 ghost use Rattle.hb_space.specs.Boxes.{IsArea};
 ghost use Rattle.hb_ops.specs.Operations.{OpHas};
 
-use crate::drawn::{push_area, push_record};
-use crate::spelled::{area_of, halves, path_of, record_of};
+use crate::drawn::{say_area, say_record};
+use crate::replies::Reply;
+use crate::spelled::{area_of, path_of, record_of};
 use hb_frag::{Path, Side};
 use hb_ops::{Cuts, LeafCut, Op};
-use hb_space::{Area, NoMemory, Point};
+use hb_space::{Area, Point};
 use smallvec::SmallVec;
-use std::alloc::Global;
-use std::test::Fail;
 
-fn put_of(text: &str) -> Result<Op, Fail>
-    ensures { IfOk result (λ op. OpHas 1 op) }
+fn put_of(reply: &mut Reply, text: &str) -> Op
+    ensures { OpHas 1 result }
 {
-    let (page, rec) = halves(text, " ", "no record")?;
-    let page = page.parse()?;
-    let rec = record_of(rec)?;
-    Ok(Op::Put { page, rec })
+    let (page, rec) = reply.parts(text, " ");
+    let page = reply.read_u32(page);
+    let rec = record_of(reply, rec);
+    Op::Put { page, rec }
 }
 
-fn del_of(text: &str) -> Result<Op, Fail>
-    ensures { IfOk result (λ op. OpHas 1 op) }
+fn del_of(reply: &mut Reply, text: &str) -> Op
+    ensures { OpHas 1 result }
 {
-    let (page, value) = halves(text, " ", "no point")?;
-    let page = page.parse()?;
-    let point = Point::new(&[value.parse()?]);
-    Ok(Op::Del { page, point })
+    let (page, value) = reply.parts(text, " ");
+    let page = reply.read_u32(page);
+    let point = Point::new(&[reply.read(value)]);
+    Op::Del { page, point }
 }
 
-fn leaf_cut(axis: &str, side: Side, value: &str) -> Result<LeafCut, Fail> {
-    let axis = axis.parse()?;
-    let value = value.parse()?;
-    Ok(LeafCut { axis, value, side })
+fn leaf_cut(reply: &mut Reply, axis: &str, side: Side, value: &str) -> LeafCut {
+    let axis = reply.read_u8(axis);
+    let value = reply.read(value);
+    LeafCut { axis, value, side }
 }
 
-fn cut_of(text: &str) -> Result<LeafCut, Fail> {
+fn cut_of(reply: &mut Reply, text: &str) -> LeafCut {
     match text.split_once('L') {
-        Some((axis, value)) => leaf_cut(axis, Side::Left, value),
+        Some((axis, value)) => leaf_cut(reply, axis, Side::Left, value),
         None => {
-            let (axis, value) = halves(text, "R", "no side")?;
-            leaf_cut(axis, Side::Right, value)
+            let (axis, value) = reply.parts(text, "R");
+            leaf_cut(reply, axis, Side::Right, value)
         }
     }
 }
 
-fn cuts_of(alloc: Global, text: &str) -> Result<Cuts, Fail> {
-    let mut cuts = SmallVec::new(alloc);
-    if text != "-" {
-        for cut in text.split_terminator(',') {
-            cuts.push(cut_of(cut)?)?;
-        }
+fn cuts_of(reply: &mut Reply, text: &str) -> Cuts {
+    let mut cuts = SmallVec::new(reply.alloc);
+    let text = if text == "-" { "" } else { text };
+    for cut in text.split_terminator(',') {
+        let is_done = cuts.push(cut_of(reply, cut)).is_ok();
+        reply.need(is_done);
     }
-    Ok(Cuts::new(cuts))
+    Cuts::new(cuts)
 }
 
 // The fresh page, and the free head afterwards.
-fn fresh_of(text: &str) -> Result<(u32, u32), Fail> {
-    let (fresh, free) = halves(text, " ", "no free head")?;
-    Ok((fresh.parse()?, free.parse()?))
+fn fresh_of(reply: &mut Reply, text: &str) -> (u32, u32) {
+    let (fresh, free) = reply.parts(text, " ");
+    (reply.read_u32(fresh), reply.read_u32(free))
 }
 
-fn split_of(alloc: Global, text: &str) -> Result<Op, Fail>
-    ensures { IfOk result (λ op. OpHas 1 op) }
+fn split_of(reply: &mut Reply, text: &str) -> Op
+    ensures { OpHas 1 result }
 {
-    let (source, rest) = halves(text, " ", "no path")?;
-    let (path, rest) = halves(rest, " ", "no cuts")?;
-    let (cuts, rest) = halves(rest, " ", "no fresh page")?;
-    let source = source.parse()?;
-    let (fresh, free_after) = fresh_of(rest)?;
-    let path = path_of(alloc, path)?;
-    let cuts = cuts_of(alloc, cuts)?;
-    Ok(Op::Extract {
+    let (source, rest) = reply.parts(text, " ");
+    let (path, rest) = reply.parts(rest, " ");
+    let (cuts, rest) = reply.parts(rest, " ");
+    let source = reply.read_u32(source);
+    let (fresh, free_after) = fresh_of(reply, rest);
+    let path = path_of(reply, path);
+    let cuts = cuts_of(reply, cuts);
+    Op::Extract {
         source,
         fresh,
         path,
         cuts,
         free_after,
-    })
-}
-
-// A box of one attribute.
-fn short_area_of(text: &str) -> Result<Area, Fail>
-    ensures { IfOk result (λ a. IsArea a × (length a.lo ≡ 1)) }
-{
-    let area = area_of(text)?;
-    if area.lo().attributes() == 1 {
-        Ok(area)
-    } else {
-        Err("a box of another space".into())
     }
 }
 
-fn post_of(alloc: Global, text: &str) -> Result<Op, Fail>
-    ensures { IfOk result (λ op. OpHas 1 op) }
+// A box of one attribute.
+fn short_area_of(reply: &mut Reply, text: &str) -> Area
+    ensures area { IsArea result }
+    ensures one { length result.lo ≡ 1 }
 {
-    let (parent, rest) = halves(text, " ", "no path")?;
-    let (at, rest) = halves(rest, " ", "no page")?;
-    let (inner, area) = halves(rest, " ", "no box")?;
-    let parent = parent.parse()?;
-    let inner = inner.parse()?;
-    let area = short_area_of(area)?;
-    let at = path_of(alloc, at)?;
-    Ok(Op::Post {
+    let area = area_of(reply, text);
+    if area.lo().attributes() == 1 {
+        area
+    } else {
+        reply.need(false);
+        Area::whole(1)
+    }
+}
+
+fn post_of(reply: &mut Reply, text: &str) -> Op
+    ensures { OpHas 1 result }
+{
+    let (parent, rest) = reply.parts(text, " ");
+    let (at, rest) = reply.parts(rest, " ");
+    let (inner, area) = reply.parts(rest, " ");
+    let parent = reply.read_u32(parent);
+    let inner = reply.read_u32(inner);
+    let area = short_area_of(reply, area);
+    let at = path_of(reply, at);
+    Op::Post {
         parent,
         at,
         inner,
         area,
-    })
+    }
 }
 
 /// `3 1 2`: the parent, the page to keep, and the page to go. A merge has no point and no box.
-pub(crate) fn merge_of(text: &str) -> Result<Op, Fail>
-    ensures one { IfOk result (λ op. OpHas 1 op) }
-    ensures four { IfOk result (λ op. OpHas 4 op) }
+pub(crate) fn merge_of(reply: &mut Reply, text: &str) -> Op
+    ensures one { OpHas 1 result }
+    ensures four { OpHas 4 result }
 {
-    let (parent, rest) = halves(text, " ", "no page to keep")?;
-    let (keep, gone) = halves(rest, " ", "no page to go")?;
-    let parent = parent.parse()?;
-    let keep = keep.parse()?;
-    let gone = gone.parse()?;
-    Ok(Op::Merge { parent, keep, gone })
-}
-
-fn grow_of(text: &str) -> Result<Op, Fail>
-    ensures { IfOk result (λ op. OpHas 1 op) }
-{
-    let (fresh, free_after) = fresh_of(text)?;
-    Ok(Op::Grow { fresh, free_after })
-}
-
-pub(crate) fn op_of(alloc: Global, text: &str) -> Result<Op, Fail>
-    ensures { IfOk result (λ op. OpHas 1 op) }
-{
-    let (verb, rest) = halves(text, " ", "no operation")?;
-    match verb {
-        "put" => put_of(rest),
-        "del" => del_of(rest),
-        "split" => split_of(alloc, rest),
-        "post" => post_of(alloc, rest),
-        "merge" => merge_of(rest),
-        "grow" => grow_of(rest),
-        _ => Err("no such operation".into()),
+    let (parent, rest) = reply.parts(text, " ");
+    let (keep, gone) = reply.parts(rest, " ");
+    Op::Merge {
+        parent: reply.read_u32(parent),
+        keep: reply.read_u32(keep),
+        gone: reply.read_u32(gone),
     }
 }
 
-pub(crate) fn push_path(text: &mut String, path: &Path) -> Result<(), NoMemory> {
+fn grow_of(reply: &mut Reply, text: &str) -> Op
+    ensures { OpHas 1 result }
+{
+    let (fresh, free_after) = fresh_of(reply, text);
+    Op::Grow { fresh, free_after }
+}
+
+fn no_op(reply: &mut Reply) -> Op
+    ensures { OpHas 1 result }
+{
+    reply.need(false);
+    Op::Grow {
+        fresh: 0,
+        free_after: 0,
+    }
+}
+
+pub(crate) fn op_of(reply: &mut Reply, text: &str) -> Op
+    ensures { OpHas 1 result }
+{
+    let (verb, rest) = reply.parts(text, " ");
+    match verb {
+        "put" => put_of(reply, rest),
+        "del" => del_of(reply, rest),
+        "split" => split_of(reply, rest),
+        "post" => post_of(reply, rest),
+        "merge" => merge_of(reply, rest),
+        "grow" => grow_of(reply, rest),
+        _ => no_op(reply),
+    }
+}
+
+pub(crate) fn say_path(reply: &mut Reply, path: &Path) {
     if path.as_slice().is_empty() {
-        return text.push('.');
+        return reply.say(".");
     }
     for side in path.as_slice() {
-        text.push(letter_of(*side))?;
+        reply.say(letter_of(*side));
     }
-    Ok(())
 }
 
-fn letter_of(side: Side) -> char {
+fn letter_of(side: Side) -> &'static str {
     match side {
-        Side::Left => 'L',
-        Side::Right => 'R',
+        Side::Left => "L",
+        Side::Right => "R",
     }
 }
 
-pub(crate) fn push_cuts(text: &mut String, cuts: &Cuts) -> Result<(), NoMemory> {
+pub(crate) fn say_cuts(reply: &mut Reply, cuts: &Cuts) {
     let mut mark = " ";
     for cut in cuts.as_slice() {
-        write!(
-            text,
-            "{mark}{}{}{}",
-            cut.axis,
-            letter_of(cut.side),
-            cut.value
-        )?;
+        reply.marked(mark, u64::from(cut.axis));
+        reply.marked(letter_of(cut.side), cut.value);
         mark = ",";
     }
     if cuts.as_slice().is_empty() {
-        text.push_str(" -")?;
+        reply.say(" -");
     }
-    Ok(())
 }
 
 /// `LR 2 0..39`: the way, the page to be named, the area.
-pub(crate) fn push_posted(
-    text: &mut String,
-    at: &Path,
-    inner: u32,
-    area: &Area,
-) -> Result<(), NoMemory> {
-    push_path(text, at)?;
-    write!(text, " {inner}")?;
-    push_area(text, area)
+pub(crate) fn say_posted(reply: &mut Reply, at: &Path, inner: u32, area: &Area) {
+    say_path(reply, at);
+    reply.marked(" ", u64::from(inner));
+    say_area(reply, area);
 }
 
-pub(crate) fn push_op(text: &mut String, op: &Op) -> Result<(), NoMemory> {
+fn say_split(reply: &mut Reply, source: u32, path: &Path, cuts: &Cuts) {
+    reply.marked("split ", u64::from(source));
+    reply.say(" ");
+    say_path(reply, path);
+    say_cuts(reply, cuts);
+}
+
+// A word, and the numbers of pages behind it.
+fn say_pages(reply: &mut Reply, word: &str, pages: &[u32]) {
+    reply.say(word);
+    for page in pages {
+        reply.marked(" ", u64::from(*page));
+    }
+}
+
+pub(crate) fn say_op(reply: &mut Reply, op: &Op) {
     match op {
         Op::Put { page, rec } => {
-            write!(text, "put {page} ")?;
-            push_record(text, rec)
+            say_pages(reply, "put", &[*page]);
+            reply.say(" ");
+            say_record(reply, rec);
         }
         Op::Del { page, point } => {
-            write!(text, "del {page}")?;
-            push_values(text, point)
+            say_pages(reply, "del", &[*page]);
+            say_values(reply, point);
         }
         Op::Extract {
             source,
@@ -216,10 +232,8 @@ pub(crate) fn push_op(text: &mut String, op: &Op) -> Result<(), NoMemory> {
             cuts,
             free_after,
         } => {
-            write!(text, "split {source} ")?;
-            push_path(text, path)?;
-            push_cuts(text, cuts)?;
-            write!(text, " {fresh} {free_after}")
+            say_split(reply, *source, path, cuts);
+            say_pages(reply, "", &[*fresh, *free_after]);
         }
         Op::Post {
             parent,
@@ -227,17 +241,17 @@ pub(crate) fn push_op(text: &mut String, op: &Op) -> Result<(), NoMemory> {
             inner,
             area,
         } => {
-            write!(text, "post {parent} ")?;
-            push_posted(text, at, *inner, area)
+            say_pages(reply, "post", &[*parent]);
+            reply.say(" ");
+            say_posted(reply, at, *inner, area);
         }
-        Op::Merge { parent, keep, gone } => write!(text, "merge {parent} {keep} {gone}"),
-        Op::Grow { fresh, free_after } => write!(text, "grow {fresh} {free_after}"),
+        Op::Merge { parent, keep, gone } => say_pages(reply, "merge", &[*parent, *keep, *gone]),
+        Op::Grow { fresh, free_after } => say_pages(reply, "grow", &[*fresh, *free_after]),
     }
 }
 
-fn push_values(text: &mut String, point: &Point) -> Result<(), NoMemory> {
+fn say_values(reply: &mut Reply, point: &Point) {
     for value in point.values() {
-        write!(text, " {value}")?;
+        reply.marked(" ", *value);
     }
-    Ok(())
 }

@@ -2,14 +2,12 @@
 
 ghost use Rattle.hb_frag.specs.Grammar.{HasSpelling};
 
-use crate::bytes::bytes_of;
-use crate::drawn::push_page;
+use crate::bytes::{bytes_of, page_bytes_of};
+use crate::drawn::say_page;
+use crate::replies::Reply;
 use hb_frag::Page;
 use hb_page_codec::{PageError, decode, encode};
-use hb_space::NoMemory;
 use hb_space::form::PAGE;
-use std::alloc::Global;
-use std::test::Fail;
 
 // Whether the spelling of a page is these bytes.
 fn is_written(page: &Page, bytes: &[u8]) -> bool
@@ -20,39 +18,36 @@ fn is_written(page: &Page, bytes: &[u8]) -> bool
     into.as_slice() == bytes
 }
 
-fn page_text(alloc: Global, page: &Page) -> Result<String, NoMemory> {
-    let mut text = String::new(alloc);
-    push_page(&mut text, page)?;
-    Ok(text)
-}
-
-fn shown(alloc: Global, bytes: &[u8]) -> Result<String, Fail> {
-    match decode(alloc, bytes) {
-        Ok(page) if is_written(&page, bytes) => Ok(page_text(alloc, &page)?),
-        Ok(_) => Err("written otherwise".into()),
-        Err(PageError::BadPage) => Ok(String::from_str(alloc, "no page")?),
-        Err(PageError::NoMemory) => Err("no memory".into()),
+fn read(reply: &mut Reply, bytes: &[u8]) {
+    match decode(reply.alloc, bytes) {
+        Ok(page) => {
+            reply.need(is_written(&page, bytes));
+            say_page(reply, &page);
+        }
+        Err(PageError::BadPage) => reply.say("no page"),
+        Err(PageError::NoMemory) => reply.need(false),
     }
 }
 
 /// The page that some bytes spell, with zeros behind them up to the length of a page. Its spelling
 /// has to be these bytes.
-pub(crate) fn page(alloc: Global, question: &str) -> Result<String, Fail> {
-    let mut bytes = bytes_of(alloc, question)?;
-    bytes.resize(PAGE, 0)?;
-    shown(alloc, &bytes)
+pub(crate) fn page(reply: &mut Reply, question: &str) {
+    let bytes = page_bytes_of(reply, question);
+    read(reply, &bytes);
 }
 
 /// The same of the bytes alone.
-pub(crate) fn bytes(alloc: Global, question: &str) -> Result<String, Fail> {
-    let bytes = bytes_of(alloc, question)?;
-    shown(alloc, &bytes)
+pub(crate) fn bytes(reply: &mut Reply, question: &str) {
+    let bytes = bytes_of(reply, question);
+    read(reply, &bytes);
 }
 
 /// How many bytes the text of a page has, for pages that are too long to be shown.
-pub(crate) fn long(alloc: Global, question: &str) -> Result<String, Fail> {
-    let text = page(alloc, question)?;
-    Ok(format!(in alloc; "{}", text.len())?)
+pub(crate) fn long(reply: &mut Reply, question: &str) {
+    let mut other = Reply::new(reply.alloc);
+    page(&mut other, question);
+    reply.need_whole(&other);
+    reply.number(other.text().len() as u64);
 }
 
 pub(crate) const ROWS: &str = "

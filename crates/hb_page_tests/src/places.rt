@@ -1,43 +1,42 @@
 //! Leaves, boxes, names and parts of a page that was drawn by hand, and weights of trees.
 
-ghost use Rattle.std.specs.Prelude.{IfOk, IsTrue};
+ghost use Rattle.std.specs.Prelude.{IfSome, IsTrue};
 ghost use Rattle.hb_space.specs.Boxes.{Holds};
 ghost use Rattle.hb_frag.specs.Leaves.{WellCut};
 ghost use Rattle.hb_frag.specs.Paths.{StaysInside};
 
-use crate::drawn::{frag_text, push_area, push_frag, push_leaf};
+use crate::drawn::{say_area, say_frag, say_leaf};
+use crate::replies::Reply;
 use crate::spelled::{area_of, page_of, path_of, point_from};
 use hb_frag::{Frag, Leaf, LivePage, Path, replace};
 use hb_space::{Area, NoMemory, Point};
 use std::alloc::Global;
-use std::test::Fail;
 
 // The box 0..99 of two attributes. Below 50 in the first: child 7 below 30 in the second, and
 // sibling 9 above. From 50 on: child 8 below 60 in the second; above it child 7 below 80 in the
 // first, and sibling 9 from there on.
 const DRAWN: &str = "1 0..99 0..99 : ( ( ^7 |1:30| >9 ) |0:50| ( ^8 |1:60| ( ^7 |0:80| >9 ) ) )";
 
-fn drawn(alloc: Global) -> Result<LivePage, Fail>
-    ensures { IfOk result (λ page. WellCut page) }
+fn drawn(reply: &mut Reply) -> Option<LivePage>
+    ensures { IfSome result (λ page. WellCut page) }
 {
-    let page = page_of(alloc, DRAWN)?;
+    let page = page_of(reply, DRAWN);
     if page.is_well_cut() {
-        Ok(page)
+        Some(page)
     } else {
-        Err("not well cut".into())
+        reply.need(false);
+        None
     }
 }
 
-fn shown(alloc: Global, part: Option<(&Frag, Area)>) -> Result<String, NoMemory> {
-    let mut text = String::new(alloc);
+fn say_part(reply: &mut Reply, part: Option<(&Frag, Area)>) {
     match part {
         Some((frag, area)) => {
-            push_frag(&mut text, frag)?;
-            push_area(&mut text, &area)?;
+            say_frag(reply, frag);
+            say_area(reply, &area);
         }
-        None => text.push_str("none")?,
+        None => reply.say("none"),
     }
-    Ok(text)
 }
 
 // Whether the point lies in the page's box.
@@ -47,135 +46,152 @@ fn reaches(page: &LivePage, point: &Point) -> bool
     page.area.lo().attributes() == point.attributes() && page.area.holds(point)
 }
 
-fn leaf_text(alloc: Global, page: &LivePage, point: &Point) -> Result<String, NoMemory>
+fn say_leaf_at(reply: &mut Reply, page: &LivePage, point: &Point)
     requires well_cut { WellCut page.now }
     requires held { Holds page.now.area point.now }
 {
     let (leaf, area) = page.leaf_at(point);
-    let mut text = String::new(alloc);
-    push_leaf(&mut text, leaf)?;
-    push_area(&mut text, &area)?;
-    Ok(text)
+    say_leaf(reply, leaf);
+    say_area(reply, &area);
 }
 
-fn path_text(alloc: Global, page: &LivePage, point: &Point) -> Result<String, NoMemory>
+fn say_path_to(reply: &mut Reply, page: &LivePage, point: &Point)
     requires well_cut { WellCut page.now }
     requires held { Holds page.now.area point.now }
 {
-    let path = page.path_to(alloc, point)?;
-    shown(alloc, page.subtree(&path))
+    match page.path_to(reply.alloc, point) {
+        Ok(path) => say_part(reply, page.subtree(&path)),
+        Err(_) => reply.need(false),
+    }
 }
 
-fn at_point(alloc: Global, page: &LivePage, point: &Point) -> Result<String, Fail>
+fn say_at(reply: &mut Reply, page: &LivePage, point: &Point)
     requires { WellCut page.now }
 {
     if !reaches(page, point) {
-        return Err("not in the page's box".into());
+        return reply.need(false);
     }
-    let text = leaf_text(alloc, page, point)?;
-    if text != path_text(alloc, page, point)? {
-        return Err("the path leads elsewhere".into());
-    }
-    Ok(text)
+    let mut other = Reply::new(reply.alloc);
+    say_leaf_at(reply, page, point);
+    say_path_to(&mut other, page, point);
+    reply.need_same(&other);
 }
 
 /// The leaf at a point and its box. The path to the point has to lead to the same.
-pub(crate) fn leaf(alloc: Global, question: &str) -> Result<String, Fail> {
-    let point = point_from(question)?;
-    at_point(alloc, &drawn(alloc)?, &point)
+pub(crate) fn leaf(reply: &mut Reply, question: &str) {
+    let point = point_from(reply, question);
+    if let Some(page) = &drawn(reply) {
+        say_at(reply, page, &point);
+    }
 }
 
-fn is_direct(page: &LivePage, area: &Area) -> Result<bool, Fail>
+fn say_direct(reply: &mut Reply, page: &LivePage, area: &Area)
     requires { WellCut page.now }
 {
     if page.area.lo().attributes() != area.lo().attributes() {
-        return Err("a box of another space".into());
+        return reply.need(false);
     }
-    Ok(page.directly(area))
+    reply.truth(page.directly(area));
 }
 
 /// Whether the page holds a box directly.
-pub(crate) fn directly(alloc: Global, question: &str) -> Result<String, Fail> {
-    let area = area_of(question)?;
-    let direct = is_direct(&drawn(alloc)?, &area)?;
-    Ok(format!(in alloc; "{direct}")?)
+pub(crate) fn directly(reply: &mut Reply, question: &str) {
+    let area = area_of(reply, question);
+    if let Some(page) = &drawn(reply) {
+        say_direct(reply, page, &area);
+    }
 }
 
-fn push_named(text: &mut String, page: &LivePage, id: u32) -> Result<(), NoMemory>
+fn say_named(reply: &mut Reply, page: &LivePage, id: u32)
     requires { WellCut page.now }
 {
-    write!(text, "{}", page.names(id))?;
-    match page.sibling_area(id) {
-        Some(area) => push_area(text, &area),
-        None => Ok(()),
+    reply.truth(page.names(id));
+    if let Some(area) = &page.sibling_area(id) {
+        say_area(reply, area);
     }
 }
 
 /// Whether a child leaf names the page of a number, and the box of the first sibling leaf that does.
-pub(crate) fn named(alloc: Global, question: &str) -> Result<String, Fail> {
-    let id = question.parse()?;
-    let mut text = String::new(alloc);
-    push_named(&mut text, &drawn(alloc)?, id)?;
-    Ok(text)
+pub(crate) fn named(reply: &mut Reply, question: &str) {
+    let id = reply.read_u32(question);
+    if let Some(page) = &drawn(reply) {
+        say_named(reply, page, id);
+    }
 }
 
 /// The part to which a path leads.
-pub(crate) fn part(alloc: Global, question: &str) -> Result<String, Fail> {
-    let path = path_of(alloc, question)?;
-    let page = drawn(alloc)?;
-    Ok(shown(alloc, page.subtree(&path))?)
+pub(crate) fn part(reply: &mut Reply, question: &str) {
+    let path = path_of(reply, question);
+    if let Some(page) = &drawn(reply) {
+        say_part(reply, page.subtree(&path));
+    }
 }
 
 fn four() -> Frag {
     Frag::tip(Leaf::Sibling(4))
 }
 
-fn copied(alloc: Global, frag: &Frag, path: &Path) -> Result<String, NoMemory>
+fn copied(alloc: Global, frag: &Frag, path: &Path) -> Result<Frag, NoMemory>
     requires { StaysInside path.now frag.now }
 {
-    frag_text(alloc, &frag.copy_with(alloc, path, four())?)
+    frag.copy_with(alloc, path, four())
 }
 
-fn replaced(alloc: Global, frag: &Frag, path: &Path) -> Result<String, NoMemory>
+fn replaced(alloc: Global, frag: &Frag, path: &Path) -> Result<Frag, NoMemory>
     requires { StaysInside path.now frag.now }
 {
-    frag_text(alloc, &replace(frag.copy(alloc)?, path, four())?)
+    replace(frag.copy(alloc)?, path, four())
 }
 
-fn holed_at(alloc: Global, page: &LivePage, path: &Path) -> Result<String, Fail>
+fn say_made(reply: &mut Reply, made: &Result<Frag, NoMemory>) {
+    match made {
+        Ok(frag) => say_frag(reply, frag),
+        Err(_) => reply.need(false),
+    }
+}
+
+fn say_holed(reply: &mut Reply, page: &LivePage, path: &Path)
     requires { WellCut page.now }
 {
     if page.subtree(path).is_none() {
-        return Err("no such part".into());
+        return reply.need(false);
     }
-    let text = copied(alloc, &page.frag, path)?;
-    if text != replaced(alloc, &page.frag, path)? {
-        return Err("another tree in place".into());
-    }
-    Ok(text)
+    let mut other = Reply::new(reply.alloc);
+    say_made(reply, &copied(reply.alloc, &page.frag, path));
+    say_made(&mut other, &replaced(reply.alloc, &page.frag, path));
+    reply.need_same(&other);
 }
 
 /// The tree with sibling 4 where a path leads, as a copy. In place it has to be the same.
-pub(crate) fn holed(alloc: Global, question: &str) -> Result<String, Fail> {
-    let path = path_of(alloc, question)?;
-    holed_at(alloc, &drawn(alloc)?, &path)
+pub(crate) fn holed(reply: &mut Reply, question: &str) {
+    let path = path_of(reply, question);
+    if let Some(page) = &drawn(reply) {
+        say_holed(reply, page, &path);
+    }
 }
 
 /// What the page of a tree weighs.
-pub(crate) fn weight(alloc: Global, question: &str) -> Result<String, Fail> {
-    let page = page_of(alloc, question)?;
-    Ok(format!(in alloc; "{}", page.weight())?)
+pub(crate) fn weight(reply: &mut Reply, question: &str) {
+    let page = page_of(reply, question);
+    reply.number(u64::from(page.weight()));
+}
+
+fn say_children(reply: &mut Reply, page: &LivePage) {
+    let children = page.children(reply.alloc);
+    reply.need(children.is_ok());
+    reply.say("named");
+    if let Ok(children) = &children {
+        for child in children.as_slice() {
+            reply.marked(" ", u64::from(*child));
+        }
+    }
 }
 
 /// The children that the page names, each once.
-pub(crate) fn children(alloc: Global) -> Result<String, Fail> {
-    let page = drawn(alloc)?;
-    let children = page.children(alloc)?;
-    let mut text = "named".to_string(alloc)?;
-    for child in children.as_slice() {
-        write!(text, " {child}")?;
+pub(crate) fn children(reply: &mut Reply) {
+    if let Some(page) = &drawn(reply) {
+        say_children(reply, page);
     }
-    Ok(text)
 }
 
 pub(crate) const ROWS: &str = "

@@ -1,19 +1,18 @@
 //! Plans of postings and merges for pages that were drawn by hand, each read off the drawing.
 
-ghost use Rattle.std.specs.Prelude.{◌≡◌, ◌<◌, ◌^◌, IfOk, IsTrue};
+ghost use Rattle.std.specs.Prelude.{◌≡◌, ◌<◌, ◌^◌, IfSome, IsTrue};
 ghost use Rattle.hb_space.specs.Boxes.{Holds};
 ghost use Rattle.hb_frag.specs.Leaves.{weight_of, WellCut};
 ghost use Rattle.hb_frag.specs.Rules.{IsNormal};
 ghost use Rattle.hb_ops.specs.Owing.{NamesChildAt};
 
-use crate::operations::push_posted;
-use crate::spelled::{halves, page_of, point_from};
+use crate::operations::say_posted;
+use crate::replies::Reply;
+use crate::spelled::{page_of, point_from};
 use hb_frag::laws::normal_says_the_same;
 use hb_frag::{Leaf, LivePage, normal};
-use hb_space::{NoMemory, Point};
+use hb_space::Point;
 use hb_terms::{MergePlan, PostPlan, merge_plan, post_plan};
-use std::alloc::Global;
-use std::test::Fail;
 
 // The page that a name stands for, or that of the text.
 fn named(name: &str) -> &str {
@@ -41,14 +40,14 @@ fn named(name: &str) -> &str {
 }
 
 // A page without a cut that parts nothing.
-fn parent_of(alloc: Global, name: &str) -> Result<LivePage, Fail>
-    ensures normal { IfOk result (λ page. IsNormal page.frag) }
-    ensures light { IfOk result (λ page. weight_of page.frag < 2 ^ 32) }
+fn parent_of(reply: &mut Reply, name: &str) -> Option<LivePage>
+    ensures normal { IfSome result (λ page. IsNormal page.frag) }
+    ensures light { IfSome result (λ page. weight_of page.frag < 2 ^ 32) }
 {
-    let LivePage { level, area, frag } = page_of(alloc, named(name))?;
-    let frag = normal(alloc, frag)?;
+    let LivePage { level, area, frag } = page_of(reply, named(name));
+    let frag = normal(reply.alloc, frag).ok()?;
     normal_says_the_same();
-    Ok(LivePage { level, area, frag })
+    Some(LivePage { level, area, frag })
 }
 
 // Whether the point lies in the page's box, and the page is well cut.
@@ -74,48 +73,45 @@ fn names_child(page: &LivePage, point: &Point) -> bool
 }
 
 // `post LR 2 0..39`: the way, the page to be named, the area.
-fn shown(alloc: Global, plan: &PostPlan) -> Result<String, NoMemory> {
-    let mut text = String::new(alloc);
+fn say_plan(reply: &mut Reply, plan: &PostPlan) {
     match plan {
-        PostPlan::Nothing => text.push_str("nothing")?,
-        PostPlan::SplitFirst => text.push_str("split first")?,
+        PostPlan::Nothing => reply.say("nothing"),
+        PostPlan::SplitFirst => reply.say("split first"),
         PostPlan::Post { at, inner, area } => {
-            text.push_str("post ")?;
-            push_posted(&mut text, at, *inner, area)?;
+            reply.say("post ");
+            say_posted(reply, at, *inner, area);
         }
     }
-    Ok(text)
 }
 
-fn planned(
-    alloc: Global,
-    parent: &LivePage,
-    child: &LivePage,
-    point: &Point,
-    icap: u16,
-) -> Result<String, Fail>
+fn say_planned(reply: &mut Reply, parent: &LivePage, child: &LivePage, point: &Point, icap: u16)
     requires normal { IsNormal parent.now.frag }
     requires light { weight_of parent.now.frag < 2 ^ 32 }
 {
     if !reaches(parent, point) || !reaches(child, point) {
-        return Err("not on the drawing".into());
+        return reply.need(false);
     }
     if !names_child(parent, point) || parent.weight() > u32::from(icap) {
-        return Err("not a parent".into());
+        return reply.need(false);
     }
-    let plan = post_plan(alloc, parent, child, point, icap)?;
-    Ok(shown(alloc, &plan)?)
+    match post_plan(reply.alloc, parent, child, point, icap) {
+        Ok(plan) => say_plan(reply, &plan),
+        Err(_) => reply.need(false),
+    }
 }
 
 /// The plan of a posting: from `PARENT CHILD CAPACITY POINT`.
-pub(crate) fn post(alloc: Global, question: &str) -> Result<String, Fail> {
-    let (parent, rest) = halves(question, " ", "no child")?;
-    let (child, rest) = halves(rest, " ", "no capacity")?;
-    let (icap, point) = halves(rest, " ", "no point")?;
-    let icap = icap.parse()?;
-    let point = point_from(point)?;
-    let parent = parent_of(alloc, parent)?;
-    planned(alloc, &parent, &page_of(alloc, named(child))?, &point, icap)
+pub(crate) fn post(reply: &mut Reply, question: &str) {
+    let (parent, rest) = reply.parts(question, " ");
+    let (child, rest) = reply.parts(rest, " ");
+    let (icap, point) = reply.parts(rest, " ");
+    let icap = reply.read_u16(icap);
+    let point = point_from(reply, point);
+    let child = page_of(reply, named(child));
+    match &parent_of(reply, parent) {
+        Some(parent) => say_planned(reply, parent, &child, &point, icap),
+        None => reply.need(false),
+    }
 }
 
 fn told(plan: MergePlan) -> &'static str {
@@ -128,47 +124,28 @@ fn told(plan: MergePlan) -> &'static str {
 }
 
 // The plan for pages of which each may weigh 6.
-fn merged(
-    parent: &LivePage,
-    keep: &LivePage,
-    gone_id: u32,
-    gone: &LivePage,
-) -> Result<&'static str, Fail>
+fn say_merge(reply: &mut Reply, parent: &LivePage, keep: &LivePage, gone_id: u32, gone: &LivePage)
     requires keep { weight_of keep.now.frag < 2 ^ 32 }
     requires gone { weight_of gone.now.frag < 2 ^ 32 }
 {
     if !parent.is_well_cut() || !keep.is_well_cut() {
-        return Err("not well cut".into());
+        return reply.need(false);
     }
     if gone.area.lo().attributes() != parent.area.lo().attributes() {
-        return Err("not on the drawing".into());
+        return reply.need(false);
     }
-    Ok(told(merge_plan(parent, keep, gone_id, gone, 6)))
-}
-
-// The plan for the page `kept`.
-fn with_kept(
-    alloc: Global,
-    parent: &LivePage,
-    gone_id: u32,
-    gone: &LivePage,
-) -> Result<&'static str, Fail>
-    requires gone { weight_of gone.now.frag < 2 ^ 32 }
-{
-    merged(parent, &page_of(alloc, named("kept"))?, gone_id, gone)
-}
-
-fn under(alloc: Global, parent: &LivePage, gone_id: u32, gone: &str) -> Result<&'static str, Fail> {
-    with_kept(alloc, parent, gone_id, &page_of(alloc, gone)?)
+    reply.say(told(merge_plan(parent, keep, gone_id, gone, 6)));
 }
 
 /// The plan of a merge that keeps the page `kept`: from `PARENT | GONE | PAGE`.
-pub(crate) fn merge(alloc: Global, question: &str) -> Result<String, Fail> {
-    let (parent, rest) = halves(question, " | ", "no page to go")?;
-    let (gone_id, gone) = halves(rest, " | ", "no page")?;
-    let gone_id = gone_id.parse()?;
-    let plan = under(alloc, &page_of(alloc, named(parent))?, gone_id, gone)?;
-    Ok(plan.to_string(alloc)?)
+pub(crate) fn merge(reply: &mut Reply, question: &str) {
+    let (parent, rest) = reply.parts(question, " | ");
+    let (gone_id, gone) = reply.parts(rest, " | ");
+    let gone_id = reply.read_u32(gone_id);
+    let parent = page_of(reply, named(parent));
+    let keep = page_of(reply, named("kept"));
+    let gone = page_of(reply, gone);
+    say_merge(reply, &parent, &keep, gone_id, &gone);
 }
 
 pub(crate) const ROWS: &str = "

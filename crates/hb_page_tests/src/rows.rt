@@ -1,73 +1,77 @@
 //! Tables of rows. A row is `KIND: QUESTION => ANSWER`; a line that begins with `//` is a comment.
 
-use crate::spelled::halves;
+use crate::replies::Reply;
 use crate::{
     boxes, carving, changes, great_pages, groups, layouts, pages, places, plans, splits, views,
 };
 use std::alloc::Global;
 use std::process::Abort;
-use std::test::Fail;
 
-fn answer(alloc: Global, text: &str) -> Result<String, Fail> {
-    let (kind, question) = halves(text, ": ", "no question")?;
+fn answer(reply: &mut Reply, kind: &str, question: &str) {
     match kind {
-        "whole" => boxes::whole(alloc, question),
-        "alone" => boxes::alone(alloc, question),
-        "between" => boxes::between(alloc, question),
-        "holds" => boxes::holds(alloc, question),
-        "lie" => boxes::lie(alloc, question),
-        "common" => boxes::common(alloc, question),
-        "cut" => boxes::cut(alloc, question),
-        "outside" => boxes::outside(alloc, question),
-        "copied" => boxes::copied(alloc, question),
-        "offsets" => layouts::offsets(alloc, question),
-        "slot" => layouts::slot(alloc, question),
-        "leaf" => places::leaf(alloc, question),
-        "directly" => places::directly(alloc, question),
-        "named" => places::named(alloc, question),
-        "children" => places::children(alloc),
-        "part" => places::part(alloc, question),
-        "holed" => places::holed(alloc, question),
-        "weight" => places::weight(alloc, question),
-        "carve" => carving::carved(alloc, question),
-        "normal" => carving::joined(alloc, question),
-        "chain" => carving::chained(alloc, question),
-        "change" => changes::changed(alloc, question),
-        "merged" => changes::merged(alloc, question),
-        "rule" => changes::rule(alloc, question),
-        "reads" => changes::reads(alloc, question),
-        "page" => pages::page(alloc, question),
-        "bytes" => pages::bytes(alloc, question),
-        "long" => pages::long(alloc, question),
-        "view" => views::view(alloc, question),
-        "asked" => great_pages::asked(alloc, question),
-        "groups" => groups::groups(alloc, question),
-        "points" => splits::points(alloc, question),
-        "steps" => splits::steps(alloc, question),
-        "full" => splits::part(alloc, question),
-        "row" => splits::row(alloc, question),
-        "post" => plans::post(alloc, question),
-        "merge" => plans::merge(alloc, question),
-        _ => Err("no such kind of question".into()),
+        "whole" => boxes::whole(reply, question),
+        "alone" => boxes::alone(reply, question),
+        "between" => boxes::between(reply, question),
+        "holds" => boxes::holds(reply, question),
+        "lie" => boxes::lie(reply, question),
+        "common" => boxes::common(reply, question),
+        "cut" => boxes::cut(reply, question),
+        "outside" => boxes::outside(reply, question),
+        "copied" => boxes::copied(reply, question),
+        "offsets" => layouts::offsets(reply, question),
+        "slot" => layouts::slot(reply, question),
+        "leaf" => places::leaf(reply, question),
+        "directly" => places::directly(reply, question),
+        "named" => places::named(reply, question),
+        "children" => places::children(reply),
+        "part" => places::part(reply, question),
+        "holed" => places::holed(reply, question),
+        "weight" => places::weight(reply, question),
+        "carve" => carving::carved(reply, question),
+        "normal" => carving::joined(reply, question),
+        "chain" => carving::chained(reply, question),
+        "change" => changes::changed(reply, question),
+        "merged" => changes::merged(reply, question),
+        "rule" => changes::rule(reply, question),
+        "reads" => changes::reads(reply, question),
+        "page" => pages::page(reply, question),
+        "bytes" => pages::bytes(reply, question),
+        "long" => pages::long(reply, question),
+        "view" => views::view(reply, question),
+        "asked" => great_pages::asked(reply, question),
+        "groups" => groups::groups(reply, question),
+        "points" => splits::points(reply, question),
+        "steps" => splits::steps(reply, question),
+        "full" => splits::part(reply, question),
+        "row" => splits::row(reply, question),
+        "post" => plans::post(reply, question),
+        "merge" => plans::merge(reply, question),
+        _ => reply.need(false),
     }
+}
+
+// What is said of a row's question, and the answer that is wanted.
+fn replied<'a>(reply: &mut Reply, row: &'a str) -> &'a str {
+    let (asked, wanted) = reply.parts(row, " => ");
+    let (kind, question) = reply.parts(asked, ": ");
+    answer(reply, kind, question);
+    wanted
 }
 
 // Asserts that a row's question has the row's answer.
-fn expect(rt: &impl Abort, alloc: Global, row: &str) -> Result<(), Fail> {
-    let (question, wanted) = halves(row, " => ", "no answer")?;
-    let answer = answer(alloc, question)?;
-    assert_eq!(rt; answer.as_str(), wanted, "{question}");
-    Ok(())
+fn expect(rt: &impl Abort, alloc: Global, row: &str) {
+    let mut reply = Reply::new(alloc);
+    let wanted = replied(&mut reply, row);
+    assert!(rt; reply.is(wanted), "{row}: {}", reply.text());
 }
 
 // Asserts that each row's question has the row's answer.
-fn expect_all(rt: &impl Abort, alloc: Global, rows: &str) -> Result<(), Fail> {
+fn expect_all(rt: &impl Abort, alloc: Global, rows: &str) {
     for row in rows.lines() {
         if !row.is_empty() && !row.starts_with("//") {
-            expect(rt, alloc, row)?;
+            expect(rt, alloc, row);
         }
     }
-    Ok(())
 }
 
 const TABLES: [&str; 11] = [
@@ -85,9 +89,8 @@ const TABLES: [&str; 11] = [
 ];
 
 #[test]
-fn rows_are_answered(rt: HostRuntime) -> Result<(), Fail> {
+fn rows_are_answered(rt: HostRuntime) {
     for table in TABLES {
-        expect_all(&rt, rt.alloc(), table)?;
+        expect_all(&rt, rt.alloc(), table);
     }
-    Ok(())
 }

@@ -6,71 +6,69 @@
 //! for no record, or records `VALUE=BODY` of one attribute, with `,` between them. A page is
 //! `LEVEL TREE`, of the whole space of one attribute, or `LEVEL BOX : TREE`.
 
-ghost use Rattle.std.specs.Prelude.{◌≡◌, ◌<◌, ◌^◌, length, IfOk, IfSome};
+ghost use Rattle.std.specs.Prelude.{◌≡◌, ◌<◌, ◌^◌, length, IfSome};
 ghost use Rattle.hb_frag.specs.Leaves.{leaf_weight, weight_of};
 
+use crate::replies::Reply;
 use arrayvec::ArrayVec;
 use hb_frag::{Frag, Leaf, LivePage, Node, Path, Side};
 use hb_space::form::{BMAX, KMAX};
 use hb_space::{Area, Body, Point, Record, Records};
 use smallvec::SmallVec;
 use std::alloc::Global;
-use std::test::Fail;
 
-/// What stands before and behind a mark, which has to be there.
-pub(crate) fn halves<'a>(
-    text: &'a str,
-    mark: &str,
-    otherwise: &'static str,
-) -> Result<(&'a str, &'a str), Fail> {
-    match text.split_once(mark) {
-        Some(halves) => Ok(halves),
-        None => Err(otherwise.into()),
-    }
-}
-
-pub(crate) fn point_of(values: &[u64]) -> Result<Point, Fail>
-    ensures { IfOk result (λ p. length p ≡ length values.now) }
-{
+fn point_of(reply: &mut Reply, values: &[u64]) -> Point {
     if values.is_empty() || values.len() > KMAX {
-        return Err("not a point".into());
+        reply.need(false);
+        return Point::new(&[0]);
     }
-    Ok(Point::new(values))
+    Point::new(values)
 }
 
 /// The point of these values, with a blank between them.
-pub(crate) fn point_from(text: &str) -> Result<Point, Fail> {
+pub(crate) fn point_from(reply: &mut Reply, text: &str) -> Point {
     let mut values: ArrayVec<u64, KMAX> = ArrayVec::new();
     for word in text.split_whitespace() {
-        values.try_push(word.parse()?)?;
+        let is_done = values.try_push(reply.read(word)).is_ok();
+        reply.need(is_done);
     }
-    point_of(values.as_slice())
+    point_of(reply, values.as_slice())
 }
 
-fn between(lo: &[u64], hi: &[u64]) -> Result<Area, Fail> {
-    if lo.len() != hi.len() {
-        return Err("corners of different spaces".into());
+/// The box between two corners, where there is one.
+pub(crate) fn between(lo: Point, hi: Point) -> Option<Area> {
+    if lo.attributes() == hi.attributes() {
+        Area::between(lo, hi)
+    } else {
+        None
     }
-    Ok(Area::between(point_of(lo)?, point_of(hi)?).ok_or("an empty box")?)
+}
+
+// The box between two corners, which has to be there.
+fn box_between(reply: &mut Reply, lo: &[u64], hi: &[u64]) -> Area {
+    let area = between(point_of(reply, lo), point_of(reply, hi));
+    reply.need(area.is_some());
+    area.unwrap_or(Area::whole(1))
 }
 
 // The value of a word, or the greatest one for none.
-fn value_of(word: &str) -> Result<u64, Fail> {
+fn value_of(reply: &mut Reply, word: &str) -> u64 {
     if word.is_empty() {
-        return Ok(u64::MAX);
+        return u64::MAX;
     }
-    Ok(word.parse()?)
+    reply.read(word)
 }
 
-pub(crate) fn area_of(text: &str) -> Result<Area, Fail> {
+pub(crate) fn area_of(reply: &mut Reply, text: &str) -> Area {
     let mut lo: ArrayVec<u64, KMAX> = ArrayVec::new();
     let mut hi: ArrayVec<u64, KMAX> = ArrayVec::new();
     for word in text.split_whitespace() {
-        let (least, greatest) = halves(word, "..", "no box")?;
-        lo.try_push(value_of(least)?)?;
-        hi.try_push(value_of(greatest)?)?;
+        let (least, greatest) = reply.parts(word, "..");
+        let has_least = lo.try_push(value_of(reply, least)).is_ok();
+        let has_greatest = hi.try_push(value_of(reply, greatest)).is_ok();
+        reply.need(has_least && has_greatest);
     }
-    between(lo.as_slice(), hi.as_slice())
+    box_between(reply, lo.as_slice(), hi.as_slice())
 }
 
 pub(crate) fn side_of(letter: char) -> Side {
@@ -81,95 +79,124 @@ pub(crate) fn side_of(letter: char) -> Side {
     }
 }
 
-pub(crate) fn path_of(alloc: Global, text: &str) -> Result<Path, Fail> {
-    let mut steps = SmallVec::new(alloc);
-    for letter in text.chars() {
-        if letter != '.' {
-            steps.push(side_of(letter))?;
-        }
+pub(crate) fn path_of(reply: &mut Reply, text: &str) -> Path {
+    let mut steps = SmallVec::new(reply.alloc);
+    for letter in text.strip_prefix('.').unwrap_or(text).chars() {
+        let is_done = steps.push(side_of(letter)).is_ok();
+        reply.need(is_done);
     }
-    Ok(Path::new(steps))
+    Path::new(steps)
 }
 
-pub(crate) fn record_of(word: &str) -> Result<Record, Fail>
-    ensures { IfOk result (λ r. length r.key ≡ 1) }
-{
-    let (value, body) = halves(word, "=", "no body")?;
-    let bytes = body.as_bytes();
+fn body_of(reply: &mut Reply, text: &str) -> Body {
+    let bytes = text.as_bytes();
     if bytes.len() > BMAX {
-        return Err("a long body".into());
+        reply.need(false);
+        return Body::new(b"");
     }
-    Ok(Record {
-        key: Point::new(&[value.parse()?]),
-        body: Body::new(bytes),
-    })
+    Body::new(bytes)
 }
 
-fn records_of(alloc: Global, word: &str) -> Result<Leaf, Fail> {
-    let mut records = Vec::new(alloc);
+pub(crate) fn record_of(reply: &mut Reply, word: &str) -> Record
+    ensures { length result.key ≡ 1 }
+{
+    let (value, body) = reply.parts(word, "=");
+    Record {
+        key: Point::new(&[reply.read(value)]),
+        body: body_of(reply, body),
+    }
+}
+
+fn records_of(reply: &mut Reply, word: &str) -> Leaf {
+    let mut records = Vec::new(reply.alloc);
     for record in word.split_terminator(',') {
-        records.push(record_of(record)?)?;
+        let is_done = records.push(record_of(reply, record)).is_ok();
+        reply.need(is_done);
     }
-    Ok(Leaf::Records(Records::new(records)))
+    Leaf::Records(Records::new(records))
 }
 
-fn leaf_of(alloc: Global, word: &str) -> Result<Leaf, Fail> {
+fn leaf_of(reply: &mut Reply, word: &str) -> Leaf {
     if let Some(name) = word.strip_prefix('^') {
-        return Ok(Leaf::Child(name.parse()?));
+        return Leaf::Child(reply.read_u32(name));
     }
     if let Some(name) = word.strip_prefix('>') {
-        return Ok(Leaf::Sibling(name.parse()?));
+        return Leaf::Sibling(reply.read_u32(name));
     }
-    records_of(alloc, word.strip_prefix('-').unwrap_or(word))
+    records_of(reply, word.strip_prefix('-').unwrap_or(word))
 }
 
 // The attribute and the value of a cut.
-fn plane_of(text: &str) -> Result<(u8, u64), Fail> {
-    let (axis, value) = halves(text, ":", "no attribute")?;
-    let (value, _) = halves(value, "|", "no end")?;
-    Ok((axis.parse()?, value.parse()?))
+fn plane_of(reply: &mut Reply, text: &str) -> (u8, u64) {
+    let (axis, value) = reply.parts(text, ":");
+    let (value, _) = reply.parts(value, "|");
+    (reply.read_u8(axis), reply.read(value))
 }
 
 // The last of the trees, which is taken away.
-fn taken(alloc: Global, frags: &mut Vec<Frag>) -> Result<Box<Frag>, Fail> {
-    let frag = frags.pop().ok_or("no tree")?;
-    Ok(Box::new(alloc, frag)?)
+fn taken(alloc: Global, frags: &mut Vec<Frag>) -> Option<Box<Frag>> {
+    Box::new(alloc, frags.pop()?).ok()
 }
 
-// The last two trees become one, by the last plane.
-fn join(alloc: Global, frags: &mut Vec<Frag>, planes: &mut Vec<(u8, u64)>) -> Result<(), Fail> {
-    let (axis, value) = planes.pop().ok_or("no cut")?;
+// The last two trees as one, by this plane.
+fn joined(alloc: Global, frags: &mut Vec<Frag>, axis: u8, value: u64) -> Option<Frag> {
     let right = taken(alloc, frags)?;
     let left = taken(alloc, frags)?;
-    Ok(frags.push(Frag::cut(axis, value, left, right))?)
+    Some(Frag::cut(axis, value, left, right))
+}
+
+fn add(reply: &mut Reply, frags: &mut Vec<Frag>, frag: Frag) {
+    let is_done = frags.push(frag).is_ok();
+    reply.need(is_done);
+}
+
+fn join(reply: &mut Reply, frags: &mut Vec<Frag>, planes: &mut Vec<(u8, u64)>) {
+    match planes.pop() {
+        Some((axis, value)) => join_at(reply, frags, axis, value),
+        None => reply.need(false),
+    }
+}
+
+fn join_at(reply: &mut Reply, frags: &mut Vec<Frag>, axis: u8, value: u64) {
+    match joined(reply.alloc, frags, axis, value) {
+        Some(frag) => add(reply, frags, frag),
+        None => reply.need(false),
+    }
+}
+
+fn add_plane(reply: &mut Reply, planes: &mut Vec<(u8, u64)>, text: &str) {
+    let is_done = planes.push(plane_of(reply, text)).is_ok();
+    reply.need(is_done);
+}
+
+fn add_leaf(reply: &mut Reply, frags: &mut Vec<Frag>, word: &str) {
+    let leaf = leaf_of(reply, word);
+    add(reply, frags, Frag::tip(leaf));
 }
 
 // What a word of a tree does to the trees that are whole and the planes that wait for a right side.
-fn take_word(
-    alloc: Global,
-    frags: &mut Vec<Frag>,
-    planes: &mut Vec<(u8, u64)>,
-    word: &str,
-) -> Result<(), Fail> {
-    if word == "(" {
-        return Ok(());
-    }
-    if word == ")" {
-        return join(alloc, frags, planes);
-    }
+fn take_word(reply: &mut Reply, frags: &mut Vec<Frag>, planes: &mut Vec<(u8, u64)>, word: &str) {
     match word.strip_prefix('|') {
-        Some(plane) => Ok(planes.push(plane_of(plane)?)?),
-        None => Ok(frags.push(Frag::tip(leaf_of(alloc, word)?))?),
+        Some(plane) => add_plane(reply, planes, plane),
+        None if word == "(" => {}
+        None if word == ")" => join(reply, frags, planes),
+        None => add_leaf(reply, frags, word),
     }
 }
 
-fn any_frag_of(alloc: Global, text: &str) -> Result<Frag, Fail> {
-    let mut frags = Vec::new(alloc);
-    let mut planes = Vec::new(alloc);
+fn no_frag() -> Frag {
+    Frag::tip(Leaf::Sibling(0))
+}
+
+fn any_frag_of(reply: &mut Reply, text: &str) -> Frag {
+    let mut frags = Vec::new(reply.alloc);
+    let mut planes = Vec::new(reply.alloc);
     for word in text.split_whitespace() {
-        take_word(alloc, &mut frags, &mut planes, word)?;
+        take_word(reply, &mut frags, &mut planes, word);
     }
-    Ok(frags.pop().ok_or("no leaf")?)
+    let frag = frags.pop();
+    reply.need(frag.is_some());
+    frag.unwrap_or(no_frag())
 }
 
 fn leaf_weight(leaf: &Leaf) -> Option<u32>
@@ -195,23 +222,27 @@ fn weight(frag: &Frag) -> Option<u32>
     }
 }
 
-pub(crate) fn frag_of(alloc: Global, text: &str) -> Result<Frag, Fail>
-    ensures { IfOk result (λ frag. weight_of frag < 2 ^ 32) }
+pub(crate) fn frag_of(reply: &mut Reply, text: &str) -> Frag
+    ensures { weight_of result < 2 ^ 32 }
 {
-    let frag = any_frag_of(alloc, text)?;
+    let frag = any_frag_of(reply, text);
     match weight(&frag) {
-        Some(_) => Ok(frag),
-        None => Err("too heavy".into()),
+        Some(_) => frag,
+        None => {
+            reply.need(false);
+            Frag::tip(Leaf::Sibling(0))
+        }
     }
 }
 
-pub(crate) fn page_of(alloc: Global, text: &str) -> Result<LivePage, Fail>
-    ensures { IfOk result (λ page. weight_of page.frag < 2 ^ 32) }
+pub(crate) fn page_of(reply: &mut Reply, text: &str) -> LivePage
+    ensures { weight_of result.frag < 2 ^ 32 }
 {
-    let (level, rest) = halves(text, " ", "no level")?;
+    let (level, rest) = reply.parts(text, " ");
     let (area, tree) = rest.split_once(" : ").unwrap_or(("0..", rest));
-    let level = level.parse()?;
-    let area = area_of(area)?;
-    let frag = frag_of(alloc, tree)?;
-    Ok(LivePage { level, area, frag })
+    LivePage {
+        level: reply.read_u8(level),
+        area: area_of(reply, area),
+        frag: frag_of(reply, tree),
+    }
 }

@@ -3,15 +3,13 @@
 ghost use Rattle.std.specs.Prelude.{◌<◌, ◌^◌};
 ghost use Rattle.hb_frag.specs.Leaves.{weight_of};
 
-use crate::operations::{push_cuts, push_path};
+use crate::operations::{say_cuts, say_path};
+use crate::replies::Reply;
 use crate::spelled::{frag_of, page_of, point_from};
 use hb_frag::{Frag, Leaf, LivePage};
 use hb_ops::{Meta, local_rule};
-use hb_space::form::KMAX;
 use hb_space::{Area, Body, Point, Record, Records};
 use hb_split::choose;
-use std::alloc::Global;
-use std::test::Fail;
 
 // A file of so many attributes, in which a page of records may weigh up to 48, and another one 256.
 fn file_of(k: u8) -> Meta {
@@ -30,94 +28,100 @@ fn file_of(k: u8) -> Meta {
 }
 
 // The part that leaves a page of a sound file.
-fn chosen(alloc: Global, page: &LivePage) -> Result<String, Fail>
+fn chosen(reply: &mut Reply, page: &LivePage)
     requires { weight_of page.now.frag < 2 ^ 32 }
 {
     let file = file_of(page.area.lo().attributes());
     if page.weight() < 6 {
-        return Err("no page to cut".into());
+        return reply.need(false);
     }
     let None = local_rule(page, &file) else {
-        return Err("no page of a sound file".into());
+        return reply.need(false);
     };
-    let part = choose(alloc, page)?;
-    let mut text = String::new(alloc);
-    push_path(&mut text, &part.path)?;
-    push_cuts(&mut text, &part.cuts)?;
-    Ok(text)
+    match choose(reply.alloc, page) {
+        Ok(part) => {
+            say_path(reply, &part.path);
+            say_cuts(reply, &part.cuts);
+        }
+        Err(_) => reply.need(false),
+    }
 }
 
 /// The part that leaves a page.
-pub(crate) fn part(alloc: Global, question: &str) -> Result<String, Fail> {
-    chosen(alloc, &page_of(alloc, question)?)
+pub(crate) fn part(reply: &mut Reply, question: &str) {
+    let page = page_of(reply, question);
+    chosen(reply, &page);
 }
 
-fn record_at(key: Point) -> Record {
-    Record {
-        key,
-        body: Body::new(b""),
-    }
+// Adds a record of the point with an empty body.
+fn add_at(reply: &mut Reply, records: &mut Vec<Record>, key: Point) {
+    let body = Body::new(b"");
+    let is_done = records.push(Record { key, body }).is_ok();
+    reply.need(is_done);
 }
 
-// The part that leaves a page with records of so many attributes alone.
-fn chosen_of(alloc: Global, k: u8, records: Vec<Record>) -> Result<String, Fail> {
-    if k < 1 || KMAX < usize::from(k) || records.len() > 48 {
-        return Err("no such page".into());
+// The part that leaves a page with records of three attributes alone.
+fn chosen_of(reply: &mut Reply, records: Vec<Record>) {
+    if records.len() > 48 {
+        return reply.need(false);
     }
     let page = LivePage {
         level: 0,
-        area: Area::whole(k),
+        area: Area::whole(3),
         frag: Frag::tip(Leaf::Records(Records::new(records))),
     };
-    chosen(alloc, &page)
+    chosen(reply, &page);
 }
 
 /// The part that leaves a page with these points of three attributes.
-pub(crate) fn points(alloc: Global, question: &str) -> Result<String, Fail> {
-    let mut records = Vec::new(alloc);
+pub(crate) fn points(reply: &mut Reply, question: &str) {
+    let mut records = Vec::new(reply.alloc);
     for point in question.split(", ") {
-        records.push(record_at(point_from(point)?))?;
+        let point = point_from(reply, point);
+        add_at(reply, &mut records, point);
     }
-    chosen_of(alloc, 3, records)
+    chosen_of(reply, records);
 }
 
 /// The part that leaves a page of 48 records, each of whose points adds the same to the one before: from these three
 /// values.
-pub(crate) fn steps(alloc: Global, question: &str) -> Result<String, Fail> {
-    let step = point_from(question)?;
+pub(crate) fn steps(reply: &mut Reply, question: &str) {
+    let step = point_from(reply, question);
     let mut at = [0u64; 3];
-    let mut records = Vec::new(alloc);
+    let mut records = Vec::new(reply.alloc);
     for _ in 0..48 {
         for (value, more) in at.iter_mut().zip(step.values()) {
             *value = value.saturating_add(*more);
         }
-        records.push(record_at(Point::new(&at)))?;
+        add_at(reply, &mut records, Point::new(&at));
     }
-    chosen_of(alloc, 3, records)
+    chosen_of(reply, records);
 }
 
-// So many children, each cut of which parts one more from those on its right.
-fn row_text(alloc: Global, count: u32) -> Result<String, Fail> {
-    let mut text = String::new(alloc);
+// Says so many children, each cut of which parts one more from those on its right.
+fn say_row(reply: &mut Reply, count: u32) {
     for child in 1..count {
-        write!(text, "( ^{child} |0:{child}| ")?;
+        reply.marked("( ^", u64::from(child));
+        reply.marked(" |0:", u64::from(child));
+        reply.say("| ");
     }
-    write!(text, "^{count}")?;
+    reply.marked("^", u64::from(count));
     for _ in 1..count {
-        text.push_str(" )")?;
+        reply.say(" )");
     }
-    Ok(text)
 }
 
 /// The part that leaves an index page with so many children in a row.
-pub(crate) fn row(alloc: Global, question: &str) -> Result<String, Fail> {
-    let text = row_text(alloc, question.parse()?)?;
+pub(crate) fn row(reply: &mut Reply, question: &str) {
+    let mut tree = Reply::new(reply.alloc);
+    say_row(&mut tree, reply.read_u32(question));
+    reply.need_whole(&tree);
     let page = LivePage {
         level: 1,
         area: Area::whole(3),
-        frag: frag_of(alloc, &text)?,
+        frag: frag_of(reply, tree.text()),
     };
-    chosen(alloc, &page)
+    chosen(reply, &page);
 }
 
 pub(crate) const ROWS: &str = "

@@ -6,63 +6,59 @@ ghost use Rattle.hb_frag.specs.Leaves.{WellCut};
 ghost use Rattle.hb_frag.specs.declared.pages.Page.TheVariants.{Live};
 ghost use Rattle.hb_view.specs.Views.{IsLive, IsLiveAnd};
 
-use crate::bytes::bytes_of;
-use crate::drawn::push_area;
-use crate::spelled::{halves, point_from};
+use crate::bytes::page_bytes_of;
+use crate::drawn::say_area;
+use crate::replies::Reply;
+use crate::spelled::point_from;
 use hb_frag::{LivePage, Page};
-use hb_space::form::PAGE;
-use hb_space::{NoMemory, Point};
+use hb_space::Point;
 use hb_view::{LeafView, PageView};
-use std::alloc::Global;
-use std::test::Fail;
 
-pub(crate) fn push_leaf(text: &mut String, leaf: LeafView) -> Result<(), NoMemory> {
+pub(crate) fn say_leaf(reply: &mut Reply, leaf: LeafView) {
     match leaf {
-        LeafView::Records => text.push_str("records"),
-        LeafView::Child(page) => write!(text, "^{page}"),
-        LeafView::Sibling(page) => write!(text, ">{page}"),
+        LeafView::Records => reply.say("records"),
+        LeafView::Child(page) => reply.marked("^", u64::from(page)),
+        LeafView::Sibling(page) => reply.marked(">", u64::from(page)),
     }
 }
 
-fn push_body(text: &mut String, body: Option<&[u8]>) -> Result<(), NoMemory> {
+fn say_body(reply: &mut Reply, body: Option<&[u8]>) {
     match body {
-        None => text.push_str(" none"),
+        None => reply.say(" none"),
         Some(bytes) => {
-            text.push(' ')?;
-            for byte in bytes {
-                text.push(char::from(*byte))?;
-            }
-            Ok(())
+            reply.say(" ");
+            reply.letters(bytes);
         }
+    }
+}
+
+pub(crate) fn say_rule(reply: &mut Reply, rule: Option<u8>) {
+    match rule {
+        None => reply.say(" ok"),
+        Some(rule) => reply.marked(" ", u64::from(rule)),
     }
 }
 
 // The level and the weight, and the first rule that the page breaks in a file of one attribute, one level and the
 // capacities 48 and 256.
-fn push_head(text: &mut String, view: &PageView<'_>) -> Result<(), NoMemory>
+fn say_head(reply: &mut Reply, view: &PageView<'_>)
     requires { IsLive view.now }
 {
-    write!(text, "{} {}", view.level(), view.weight())?;
-    match view.broken(1, 1, 48, 256) {
-        None => text.push_str(" ok"),
-        Some(rule) => write!(text, " {rule}"),
-    }
+    reply.number(u64::from(view.level()));
+    reply.marked(" ", u64::from(view.weight()));
+    say_rule(reply, view.broken(1, 1, 48, 256));
 }
 
 // The leaf at the point, its box, and the body of the point's record.
-pub(crate) fn push_found(
-    text: &mut String,
-    view: &PageView<'_>,
-    point: &Point,
-) -> Result<(), NoMemory>
+pub(crate) fn say_found(reply: &mut Reply, view: &PageView<'_>, point: &Point)
     requires cut { IsLiveAnd view.now WellCut }
     requires held { IsLiveAnd view.now (λ page. Holds page.area point.now) }
 {
     let (leaf, area) = view.leaf_at(point);
-    text.push_str(": ")?;
-    push_leaf(text, leaf)?;
-    push_area(text, &area)?;
-    push_body(text, view.find(point))
+    reply.say(": ");
+    say_leaf(reply, leaf);
+    say_area(reply, &area);
+    say_body(reply, view.find(point));
 }
 
 // Whether the page is well cut and the point lies in its box.
@@ -75,39 +71,32 @@ pub(crate) fn reaches(page: &LivePage, point: &Point) -> bool
         && page.area.holds(point)
 }
 
-fn live_text(
-    alloc: Global,
-    view: &PageView<'_>,
-    page: &LivePage,
-    point: &Point,
-) -> Result<String, NoMemory>
+fn say_live(reply: &mut Reply, view: &PageView<'_>, page: &LivePage, point: &Point)
     requires { view.now ≡ Live page.now }
 {
-    let mut text = String::new(alloc);
-    push_head(&mut text, view)?;
+    say_head(reply, view);
     if reaches(page, point) {
-        push_found(&mut text, view, point)?;
+        say_found(reply, view, point);
     }
-    Ok(text)
 }
 
-fn seen(alloc: Global, view: &PageView<'_>, point: &Point) -> Result<String, NoMemory> {
-    match view.page(alloc)? {
-        Page::Free { .. } => format!(in alloc; "free {}", view.next()),
-        Page::Live(page) => live_text(alloc, view, &page, point),
+fn say_seen(reply: &mut Reply, view: &PageView<'_>, point: &Point) {
+    match view.page(reply.alloc) {
+        Ok(Page::Free { .. }) => reply.marked("free ", u64::from(view.next())),
+        Ok(Page::Live(page)) => say_live(reply, view, &page, point),
+        Err(_) => reply.need(false),
     }
 }
 
 /// What a view of some bytes tells, with zeros behind them up to the length of a page. A page in use is asked for its leaf at
 /// a point, where that lies in its box and the page is well cut.
-pub(crate) fn view(alloc: Global, question: &str) -> Result<String, Fail> {
-    let (bytes, point) = halves(question, " ? ", "no point")?;
-    let point = point_from(point)?;
-    let mut bytes = bytes_of(alloc, bytes)?;
-    bytes.resize(PAGE, 0)?;
+pub(crate) fn view(reply: &mut Reply, question: &str) {
+    let (bytes, point) = reply.parts(question, " ? ");
+    let point = point_from(reply, point);
+    let bytes = page_bytes_of(reply, bytes);
     match PageView::checked(&bytes) {
-        Some(view) => Ok(seen(alloc, &view, &point)?),
-        None => Ok(String::from_str(alloc, "no page")?),
+        Some(view) => say_seen(reply, &view, &point),
+        None => reply.say("no page"),
     }
 }
 

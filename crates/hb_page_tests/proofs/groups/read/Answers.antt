@@ -10,7 +10,7 @@ each_fits : (groups : List Group) → AllByRecursion (FitsGroup 1) (map logged g
 each_fits [] all = tt
 each_fits (g ∷ rest) all = (all.0, each_fits rest all.1)
 
-pub written-requires : goal.written-requires
-written-requires c =
+pub written-again-requires : goal.written-again-requires
+written-again-requires c =
     let groups = c.in-Ok.groups.items in
     rw (c.deref.ensures.value) (All-from_recursion (λ g. FitsGroup 1 (logged g)) groups (each_fits groups (recursion_from_All (FitsGroup 1) (map logged groups) c.in-Ok.ensures.read.fits)))
