@@ -1,5 +1,5 @@
 -- The box that is asked for has as many attributes as the file.
-use Rattle.hb_core.proofs.Running.Names.{◌≡◌, ℕ, List, length, replicate, Option, Some, None, IfSome, refl, sym, ◌∙◌, subst, option_and_then, Leaf, Records, Child, Sibling, LivePage, Page, Live, Free, Placed, leaf_at, if_live, IsLiveAnd, Area, Holds, Activity, goal_of, HasLeafAt, IsGoodPage, IsMemory, StoreState, in_memory, AskedBox, asked_box, box_at, box_by_leaf, box_of_child, box_of_place, box_of_sibling, MayLook, live_here, IsWorking}
+use Rattle.hb_core.proofs.Running.Names.{◌≡◌, ℕ, List, length, replicate, Option, Some, None, IfSome, refl, sym, ◌∙◌, option_and_then, Leaf, Records, Child, Sibling, LivePage, Page, Live, Free, Placed, leaf_at, if_live, IsLiveAnd, Area, Holds, Activity, goal_of, HasLeafAt, IsGoodPage, IsMemory, StoreState, in_memory, AskedBox, asked_box, box_at, box_by_leaf, box_of_child, box_of_place, box_of_sibling, MayLook, live_here, IsWorking}
 use Rattle.std.proofs.lemmas.List.{length-replicate}
 use Rattle.hb_frag.proofs.Facts.Tiles.{first_tells}
 use Rattle.hb_frag.specs.Leaves.{WellCut}

@@ -22,4 +22,3 @@ returns-else-from-last c e at =
     ap (drop c.self.inside.gone) c.climb.ensures.entries
     ∙ last_behind c.self.inside.gone c.args.place (c.len-last.result - 1) c.self.inside.pages.entries e there (omega (arith, c.len-last.ensures.len))
     ∙ ap (λ (o : List (ℕ × ℕ)). remove o c.args.place ++ e ∷ []) c.self.view_is
-
