@@ -9,6 +9,7 @@ ghost use Rattle.hb_view.specs.Views.{IsLive, IsLiveAnd};
 use crate::jobs::job;
 use crate::rows::expect;
 use crate::spelled::{bytes_of, fits_file, has_point};
+use crate::texts::Text;
 use hb_activity::{Activity, JobKind};
 use hb_frag::{Frag, Leaf, LivePage};
 use hb_latch::Mode;
@@ -323,63 +324,57 @@ fn can_look(activity: &Activity, view: &PageView<'_>) -> bool
     }
 }
 
-fn letter_of(mode: Mode) -> char {
+fn letter_of(mode: Mode) -> &'static str {
     match mode {
-        Mode::Shared => 'S',
-        Mode::Update => 'U',
-        Mode::Exclusive => 'X',
+        Mode::Shared => "S",
+        Mode::Update => "U",
+        Mode::Exclusive => "X",
     }
 }
 
-// Adds the latches that it holds, as in `ROWS`.
-fn show_held(text: &mut String, activity: &Activity, view: &PageView<'_>) -> Option<()>
+// Says the latches that it holds, as in `ROWS`.
+fn say_held(text: &mut Text, activity: &Activity, view: &PageView<'_>)
     requires { IsLive view.now }
 {
     for latch in activity.held(Some(view.copy())).as_slice() {
-        write!(text, "{}{}", latch.page, letter_of(latch.mode)).ok()?;
+        text.number(u64::from(latch.page));
+        text.say(letter_of(latch.mode));
     }
-    text.push(';').ok()
+    text.say(";");
 }
 
-// Adds the latch that it wants, and whether it may change the file.
-fn show_wanted(
-    text: &mut String,
-    activity: &Activity,
-    meta: &Meta,
-    view: &PageView<'_>,
-) -> Option<()>
+// Says the latch that it wants, and whether it may change the file.
+fn say_wanted(text: &mut Text, activity: &Activity, meta: &Meta, view: &PageView<'_>)
     requires live { IsLive view.now }
     requires look { CanLook activity.now (if_live (Some view.now)) }
 {
     if let Some(wanted) = activity.wanted(meta, Some(view.copy())) {
-        let letter = letter_of(wanted.mode);
-        write!(text, " {}.{}{letter}", wanted.page, wanted.level).ok()?;
+        text.marked(" ", u64::from(wanted.page));
+        text.marked(".", u64::from(wanted.level));
+        text.say(letter_of(wanted.mode));
     }
     if activity.may_commit(meta, Some(view.copy())) {
-        text.push('!').ok()?;
+        text.say("!");
     }
-    Some(())
 }
 
-// Adds the box that it has locked.
-fn show_lock(text: &mut String, activity: &Activity) -> Option<()> {
-    let Some(lock) = activity.box_lock() else {
-        return Some(());
-    };
-    let least = lock.area.lo().values()[0];
-    let greatest = lock.area.hi().values()[0];
-    let manner = if lock.shared { "shared" } else { "alone" };
-    write!(text, "; {least}..{greatest} {manner}").ok()
+// Says the box that it has locked.
+fn say_lock(text: &mut Text, activity: &Activity) {
+    if let Some(lock) = &activity.box_lock() {
+        text.marked("; ", lock.area.lo().values()[0]);
+        text.marked("..", lock.area.hi().values()[0]);
+        text.say(if lock.shared { " shared" } else { " alone" });
+    }
 }
 
-// Adds all that is told of the activity.
-fn show(text: &mut String, activity: &Activity, meta: &Meta, view: &PageView<'_>) -> Option<()> {
+// Says all that is told of the activity.
+fn say_activity(text: &mut Text, activity: &Activity, meta: &Meta, view: &PageView<'_>) {
     if !fits_file(view, meta) || !can_look(activity, view) {
-        return None;
+        return text.need(false);
     }
-    show_held(text, activity, view)?;
-    show_wanted(text, activity, meta, view)?;
-    show_lock(text, activity)
+    say_held(text, activity, view);
+    say_wanted(text, activity, meta, view);
+    say_lock(text, activity);
 }
 
 // Whether this is told of the activity that the text spells.
@@ -387,9 +382,9 @@ fn is_told(alloc: Global, spelled: &str, level: u8, height: u8, want: &str) -> O
     let activity = activity_of(alloc, spelled)?;
     let bytes = bytes_of(alloc, &page_of(alloc, level)?)?;
     let view = PageView::checked(&bytes)?;
-    let mut text = String::new(alloc);
-    show(&mut text, &activity, &meta(height), &view)?;
-    Some(text.as_str() == want)
+    let mut text = Text::new(alloc);
+    say_activity(&mut text, &activity, &meta(height), &view);
+    Some(text.is(want))
 }
 
 #[test]

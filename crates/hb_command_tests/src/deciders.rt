@@ -14,9 +14,10 @@ ghost use Rattle.hb_space.specs.Boxes.{Holds};
 ghost use Rattle.hb_view.specs.Views.{IsLive, IsLiveAnd};
 
 use crate::activities::point;
-use crate::jobs::{job, show};
+use crate::jobs::{job, say_jobs};
 use crate::rows::expect;
 use crate::spelled::{bytes_of, fits_file, has_point};
+use crate::texts::Text;
 use hb_activity::{Activity, Fate, Job, JobKind, Latched, Next};
 use hb_frag::{Frag, Leaf, LivePage, Node, Path, Side};
 use hb_ops::{Cuts, Meta, Op, Standing, has_room, local_rule, look_at};
@@ -302,31 +303,41 @@ fn next_of(alloc: Global, step: &str, page: &LivePage, value: u32, meta: &Meta) 
     }
 }
 
-fn letter_of(side: Side) -> char {
+fn letter_of(side: Side) -> &'static str {
     match side {
-        Side::Left => 'L',
-        Side::Right => 'R',
+        Side::Left => "L",
+        Side::Right => "R",
     }
 }
 
-fn show_path(text: &mut String, path: &Path) -> Option<()> {
-    text.push_str(" .").ok()?;
+fn say_path(text: &mut Text, path: &Path) {
+    text.say(" .");
     for side in path.as_slice() {
-        text.push(letter_of(*side)).ok()?;
+        text.say(letter_of(*side));
     }
-    Some(())
 }
 
-fn show_cuts(text: &mut String, cuts: &Cuts) -> Option<()> {
+fn say_cuts(text: &mut Text, cuts: &Cuts) {
     for cut in cuts.as_slice() {
-        write!(text, " {}{}{}", cut.axis, letter_of(cut.side), cut.value).ok()?;
+        text.marked(" ", u64::from(cut.axis));
+        text.marked(letter_of(cut.side), cut.value);
     }
-    Some(())
 }
 
-pub(crate) fn show_op(text: &mut String, op: &Op) -> Option<()> {
+// Says a word, and numbers behind it.
+fn say_numbers(text: &mut Text, word: &str, numbers: &[u32]) {
+    text.say(word);
+    for number in numbers {
+        text.marked(" ", u64::from(*number));
+    }
+}
+
+pub(crate) fn say_op(text: &mut Text, op: &Op) {
     match op {
-        Op::Put { page, rec } => write!(text, "put {page} {}", rec.key.values()[0]).ok(),
+        Op::Put { page, rec } => {
+            say_numbers(text, "put", &[*page]);
+            text.marked(" ", rec.key.values()[0]);
+        }
         Op::Extract {
             source,
             fresh,
@@ -334,10 +345,10 @@ pub(crate) fn show_op(text: &mut String, op: &Op) -> Option<()> {
             cuts,
             free_after,
         } => {
-            write!(text, "extract {source} {fresh}").ok()?;
-            show_path(text, path)?;
-            show_cuts(text, cuts)?;
-            write!(text, " {free_after}").ok()
+            say_numbers(text, "extract", &[*source, *fresh]);
+            say_path(text, path);
+            say_cuts(text, cuts);
+            say_numbers(text, "", &[*free_after]);
         }
         Op::Post {
             parent,
@@ -345,14 +356,20 @@ pub(crate) fn show_op(text: &mut String, op: &Op) -> Option<()> {
             inner,
             area,
         } => {
-            write!(text, "post {parent}").ok()?;
-            show_path(text, at)?;
-            let least = area.lo().values()[0];
-            write!(text, " {inner} {least}..{}", area.hi().values()[0]).ok()
+            say_numbers(text, "post", &[*parent]);
+            say_path(text, at);
+            say_numbers(text, "", &[*inner]);
+            text.marked(" ", area.lo().values()[0]);
+            text.marked("..", area.hi().values()[0]);
         }
-        Op::Del { page, point } => write!(text, "del {page} {}", point.values()[0]).ok(),
-        Op::Merge { parent, keep, gone } => write!(text, "merge {parent} {keep} {gone}").ok(),
-        Op::Grow { .. } => None,
+        Op::Del { page, point } => {
+            say_numbers(text, "del", &[*page]);
+            text.marked(" ", point.values()[0]);
+        }
+        Op::Merge { parent, keep, gone } => {
+            say_numbers(text, "merge", &[*parent, *keep, *gone]);
+        }
+        Op::Grow { .. } => text.need(false),
     }
 }
 
@@ -370,15 +387,19 @@ fn fate_of(next: &Next) -> &'static str {
     }
 }
 
-fn shown(alloc: Global, next: &Next) -> Option<String> {
-    let mut text = String::new(alloc);
+fn say_next(text: &mut Text, next: &Next) {
     if let Some(op) = &next.op {
-        show_op(&mut text, op)?;
+        say_op(text, op);
     }
-    text.push(';').ok()?;
-    show(&mut text, next.jobs.as_slice())?;
-    text.push_str(fate_of(next)).ok()?;
-    Some(text)
+    text.say(";");
+    say_jobs(text, next.jobs.as_slice());
+    text.say(fate_of(next));
+}
+
+fn says(alloc: Global, next: &Next, want: &str) -> bool {
+    let mut text = Text::new(alloc);
+    say_next(&mut text, next);
+    text.is(want)
 }
 
 // Whether the step comes to this.
@@ -386,11 +407,8 @@ fn comes_to(alloc: Global, step: &str, name: &str, meta: &Meta, value: u32, want
     let Some(page) = page_of(alloc, name) else {
         return false;
     };
-    match next_of(alloc, step, &page, value, meta) {
-        Some(next) => match shown(alloc, &next) {
-            Some(text) => text.as_str() == want,
-            None => false,
-        },
+    match &next_of(alloc, step, &page, value, meta) {
+        Some(next) => says(alloc, next, want),
         None => false,
     }
 }

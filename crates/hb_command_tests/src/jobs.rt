@@ -1,6 +1,7 @@
 //! In which order jobs wait, and how many.
 
 use crate::rows::expect;
+use crate::texts::Text;
 use hb_activity::{Job, JobKind, Jobs};
 use hb_space::Point;
 use std::alloc::Global;
@@ -14,22 +15,22 @@ pub(crate) fn job(kind: JobKind, level: u32, value: u32) -> Job {
 }
 
 // Adds jobs, as ` P1.50 M0.7`.
-pub(crate) fn show(text: &mut String, jobs: &[Job]) -> Option<()> {
+pub(crate) fn say_jobs(text: &mut Text, jobs: &[Job]) {
     for job in jobs {
-        let letter = match job.kind {
-            JobKind::Post => 'P',
-            JobKind::Merge => 'M',
-        };
-        let value = job.point.values().first().copied()?;
-        write!(text, " {letter}{}.{value}", job.level).ok()?;
+        text.say(match job.kind {
+            JobKind::Post => " P",
+            JobKind::Merge => " M",
+        });
+        text.number(u64::from(job.level));
+        text.marked(".", job.point.values()[0]);
     }
-    Some(())
 }
 
 // Whether the jobs that wait are these.
 fn are(alloc: Global, jobs: &Jobs, want: &str) -> bool {
-    let mut text = String::new(alloc);
-    show(&mut text, jobs.as_slice()).is_some() && text.as_str() == want
+    let mut text = Text::new(alloc);
+    say_jobs(&mut text, jobs.as_slice());
+    text.is(want)
 }
 
 // Whether a job is added, or else taken; its kind, its level and its value, where level 9 stands for no job that is taken; and

@@ -32,3 +32,5 @@ mod searches;
 mod sets;
 #[cfg(test)]
 mod spelled;
+#[cfg(test)]
+mod texts;

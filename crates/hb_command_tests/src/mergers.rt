@@ -4,9 +4,10 @@ ghost use Rattle.std.specs.Prelude.{◌≡◌, ◌≤◌};
 ghost use Rattle.hb_layout.specs.Limits.{IsLayout};
 ghost use Rattle.hb_ops.specs.Sound.{FitsFile};
 
-use crate::deciders::{cut_at, fits, is_inside, meta, records, show_op};
-use crate::jobs::{job, show};
+use crate::deciders::{cut_at, fits, is_inside, meta, records, say_op};
+use crate::jobs::{job, say_jobs};
 use crate::rows::expect;
+use crate::texts::Text;
 use hb_activity::{Activity, Job, JobKind, Latched, Next};
 use hb_frag::{Frag, Leaf, LivePage};
 use hb_layout::Meta;
@@ -64,27 +65,34 @@ fn page_two(alloc: Global) -> Option<LivePage> {
 }
 
 // Where the consolidator stands.
-fn show_then(text: &mut String, then: &Activity) -> Option<()> {
+fn say_then(text: &mut Text, then: &Activity) {
     match then {
-        Activity::ConsolidatorScan { child, .. } => write!(text, "scan {child}").ok(),
-        Activity::ConsolidatorTry { gone, leaf, .. } => write!(text, "try {gone} {leaf}").ok(),
-        Activity::ConsolidatorPromote { .. } => text.push_str("promote").ok(),
-        Activity::ConsolidatorDecide { .. } => text.push_str("decide").ok(),
-        Activity::ConsolidatorIdle => text.push_str("idle").ok(),
-        _ => None,
+        Activity::ConsolidatorScan { child, .. } => text.marked("scan ", u64::from(*child)),
+        Activity::ConsolidatorTry { gone, leaf, .. } => {
+            text.marked("try ", u64::from(*gone));
+            text.marked(" ", u64::from(*leaf));
+        }
+        Activity::ConsolidatorPromote { .. } => text.say("promote"),
+        Activity::ConsolidatorDecide { .. } => text.say("decide"),
+        Activity::ConsolidatorIdle => text.say("idle"),
+        _ => text.need(false),
     }
 }
 
-fn shown(alloc: Global, next: &Next) -> Option<String> {
-    let mut text = String::new(alloc);
-    show_then(&mut text, &next.then)?;
+fn say_next(text: &mut Text, next: &Next) {
+    say_then(text, &next.then);
     if let Some(op) = &next.op {
-        text.push(' ').ok()?;
-        show_op(&mut text, op)?;
+        text.say(" ");
+        say_op(text, op);
     }
-    text.push(';').ok()?;
-    show(&mut text, next.jobs.as_slice())?;
-    Some(text)
+    text.say(";");
+    say_jobs(text, next.jobs.as_slice());
+}
+
+fn says(alloc: Global, next: &Next, want: &str) -> bool {
+    let mut text = Text::new(alloc);
+    say_next(&mut text, next);
+    text.is(want)
 }
 
 fn walk(alloc: Global, above: Latched<'_>) -> Option<Next> {
@@ -175,11 +183,8 @@ fn next_of(alloc: Global, step: &str, meta: &Meta) -> Option<Next> {
 
 // Whether the step comes to this.
 fn comes_to(alloc: Global, step: &str, meta: &Meta, want: &str) -> bool {
-    match next_of(alloc, step, meta) {
-        Some(next) => match shown(alloc, &next) {
-            Some(text) => text.as_str() == want,
-            None => false,
-        },
+    match &next_of(alloc, step, meta) {
+        Some(next) => says(alloc, next, want),
         None => false,
     }
 }

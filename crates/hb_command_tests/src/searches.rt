@@ -10,6 +10,7 @@ ghost use Rattle.hb_view.specs.Views.{IsLiveAnd};
 use crate::deciders::{fits, is_inside};
 use crate::rows::expect;
 use crate::spelled::{bytes_of, fits_file, has_point};
+use crate::texts::Text;
 use hb_activity::{Activity, Latched, Next};
 use hb_frag::{Frag, Leaf, LivePage};
 use hb_ops::Meta;
@@ -290,9 +291,10 @@ fn found_by(
 
 // A session with a search that takes its first step.
 #[tactic(auto, using(hb_search::proofs::Facts::BeginsApart::begins_apart))]
-fn begun(alloc: Global, asked: Area) -> Option<Activity>
+fn begun(alloc: Global, asked: Option<Area>) -> Option<Activity>
     ensures { IfSome result StaysGathering }
 {
+    let asked = asked?;
     let mut rest = Vec::new(alloc);
     rest.push(asked.copy()).ok()?;
     Some(Activity::SessionWalk {
@@ -307,43 +309,47 @@ fn begun(alloc: Global, asked: Area) -> Option<Activity>
     })
 }
 
-fn show_value(text: &mut String, value: u64) -> Option<()> {
+fn say_value(text: &mut Text, value: u64) {
     if value == M {
-        text.push('M').ok()
+        text.say("M");
     } else {
-        write!(text, "{value}").ok()
+        text.number(value);
     }
 }
 
-// Puts the values of the point, with a dot between them.
-fn show_point(text: &mut String, point: &Point) -> Option<()> {
-    let mut mark = ' ';
+// Says the values of the point, with a dot between them.
+fn say_point(text: &mut Text, point: &Point) {
+    let mut mark = " ";
     for value in point.values() {
-        text.push(mark).ok()?;
-        show_value(text, *value)?;
-        mark = '.';
+        text.say(mark);
+        say_value(text, *value);
+        mark = ".";
     }
-    Some(())
 }
 
-// How many steps the search takes, and its records.
-fn shown(alloc: Global, k: u8, given: Given, asked: Area) -> Option<String> {
-    let (left, found) = found_by(alloc, begun(alloc, asked)?, given, &meta(k), 20)?;
-    let mut text = String::new(alloc);
-    write!(text, "{}:", 20_u32.checked_sub(left)?).ok()?;
+// Says how many steps the search takes of twenty, and its records.
+fn say_found(text: &mut Text, left: u32, found: &Records) {
+    text.need(left <= 20);
+    text.number(u64::from(20_u32.saturating_sub(left)));
+    text.say(":");
     for record in found.as_slice() {
-        show_point(&mut text, &record.key)?;
+        say_point(text, &record.key);
     }
-    Some(text)
+}
+
+fn says(alloc: Global, left: u32, found: &Records, want: &str) -> bool {
+    let mut text = Text::new(alloc);
+    say_found(&mut text, left, found);
+    text.is(want)
 }
 
 // Whether the search comes to this.
 fn comes_to(alloc: Global, k: u8, given: Given, asked: Option<Area>, want: &str) -> bool {
-    let Some(asked) = asked else {
+    let Some(state) = begun(alloc, asked) else {
         return false;
     };
-    match shown(alloc, k, given, asked) {
-        Some(text) => text.as_str() == want,
+    match &found_by(alloc, state, given, &meta(k), 20) {
+        Some((left, found)) => says(alloc, *left, found, want),
         None => false,
     }
 }

@@ -4,6 +4,7 @@
 ghost use Rattle.hb_set.specs.Machine.{HasAttributes};
 
 use crate::rows::expect;
+use crate::texts::Text;
 use hb_set::{Command, Reply, Set};
 use hb_space::form::{BMAX, KMAX};
 use hb_space::{Area, Body, NoMemory, Point, Record};
@@ -36,8 +37,9 @@ impl Trial {
             return false;
         }
         let reply = self.set.answer(&command);
-        let mut text = String::new(self.alloc);
-        show(&mut text, &reply).is_some() && text.as_str() == want
+        let mut text = Text::new(self.alloc);
+        say_reply(&mut text, &reply);
+        text.is(want)
     }
 }
 
@@ -94,48 +96,45 @@ fn area_of(text: &str) -> Option<Area> {
     Area::between(lo, hi)
 }
 
-/// Adds a reply as text: `found=BODY`, `within POINT=BODY ..`, or its name.
-fn show(text: &mut String, reply: &Reply) -> Option<()> {
+/// Says a reply: `found=BODY`, `within POINT=BODY ..`, or its name.
+fn say_reply(text: &mut Text, reply: &Reply) {
     match reply {
-        Reply::Done => text.push_str("done").ok(),
-        Reply::Duplicate => text.push_str("duplicate").ok(),
-        Reply::Absent => text.push_str("absent").ok(),
+        Reply::Done => text.say("done"),
+        Reply::Duplicate => text.say("duplicate"),
+        Reply::Absent => text.say("absent"),
         Reply::Found(body) => {
-            text.push_str("found").ok()?;
-            show_body(text, body)
+            text.say("found");
+            say_body(text, body);
         }
-        Reply::Missing => text.push_str("missing").ok(),
+        Reply::Missing => text.say("missing"),
         Reply::Within(records) => {
-            text.push_str("within").ok()?;
-            show_records(text, records.as_slice())
+            text.say("within");
+            say_records(text, records.as_slice());
         }
-        Reply::Full | Reply::NoMemory | Reply::ReadFault => None,
+        Reply::Full | Reply::NoMemory | Reply::ReadFault => text.need(false),
     }
 }
 
-fn show_records(text: &mut String, records: &[Record]) -> Option<()> {
+fn say_records(text: &mut Text, records: &[Record]) {
     for each in records {
-        show_point(text, &each.key)?;
-        show_body(text, &each.body)?;
+        say_point(text, &each.key);
+        say_body(text, &each.body);
     }
-    Some(())
 }
 
-fn show_point(text: &mut String, point: &Point) -> Option<()> {
-    let mut mark = ' ';
+fn say_point(text: &mut Text, point: &Point) {
+    let mut mark = " ";
     for value in point.values() {
-        write!(text, "{mark}{value}").ok()?;
-        mark = ',';
+        text.marked(mark, *value);
+        mark = ",";
     }
-    Some(())
 }
 
-fn show_body(text: &mut String, body: &Body) -> Option<()> {
-    text.push('=').ok()?;
+fn say_body(text: &mut Text, body: &Body) {
+    text.say("=");
     for byte in body.bytes() {
-        text.push(char::from(*byte)).ok()?;
+        text.letter(char::from(*byte));
     }
-    Some(())
 }
 
 /// Commands over points of one attribute, and the replies.

@@ -5,6 +5,7 @@ ghost use Rattle.hb_ops.specs.Sound.{FitsFile};
 ghost use Rattle.hb_space.specs.Boxes.{Holds};
 ghost use Rattle.hb_view.specs.Views.{IsLive, IsLiveAnd};
 
+use crate::texts::Bytes;
 use hb_frag::{Frag, Leaf, LivePage, Node};
 use hb_layout::Meta;
 use hb_space::form::PAGE;
@@ -12,84 +13,68 @@ use hb_space::{Point, Record};
 use hb_view::PageView;
 use std::alloc::Global;
 
-fn push_all(bytes: &mut Vec<u8>, more: &[u8]) -> Option<()> {
-    for byte in more {
-        bytes.push(*byte).ok()?;
-    }
-    Some(())
-}
-
-fn push_point(bytes: &mut Vec<u8>, point: &Point) -> Option<()> {
+fn add_point(bytes: &mut Bytes, point: &Point) {
     for value in point.values() {
-        push_all(bytes, &value.to_be_bytes())?;
+        bytes.add(&value.to_be_bytes());
     }
-    Some(())
 }
 
-fn push_record(bytes: &mut Vec<u8>, record: &Record) -> Option<()> {
-    push_point(bytes, &record.key)?;
-    bytes
-        .push(u8::try_from(record.body.bytes().len()).ok()?)
-        .ok()?;
-    push_all(bytes, record.body.bytes())
+fn add_record(bytes: &mut Bytes, record: &Record) {
+    add_point(bytes, &record.key);
+    bytes.short(record.body.bytes().len());
+    bytes.add(record.body.bytes());
 }
 
-fn push_records(bytes: &mut Vec<u8>, records: &[Record]) -> Option<()> {
-    push_all(bytes, &u16::try_from(records.len()).ok()?.to_be_bytes())?;
+fn add_records(bytes: &mut Bytes, records: &[Record]) {
+    bytes.count(records.len());
     for record in records {
-        push_record(bytes, record)?;
+        add_record(bytes, record);
     }
-    Some(())
 }
 
-fn push_name(bytes: &mut Vec<u8>, tag: u8, page: u32) -> Option<()> {
-    bytes.push(tag).ok()?;
-    push_all(bytes, &page.to_be_bytes())
+fn add_name(bytes: &mut Bytes, tag: u8, page: u32) {
+    bytes.add(&[tag]);
+    bytes.add(&page.to_be_bytes());
 }
 
-fn push_leaf(bytes: &mut Vec<u8>, leaf: &Leaf) -> Option<()> {
+fn add_leaf(bytes: &mut Bytes, leaf: &Leaf) {
     match leaf {
         Leaf::Records(records) => {
-            bytes.push(1).ok()?;
-            push_records(bytes, records.as_slice())
+            bytes.add(&[1]);
+            add_records(bytes, records.as_slice());
         }
-        Leaf::Child(page) => push_name(bytes, 2, *page),
-        Leaf::Sibling(page) => push_name(bytes, 3, *page),
+        Leaf::Child(page) => add_name(bytes, 2, *page),
+        Leaf::Sibling(page) => add_name(bytes, 3, *page),
     }
 }
 
-fn push_frag(bytes: &mut Vec<u8>, frag: &Frag) -> Option<()> {
+fn add_frag(bytes: &mut Bytes, frag: &Frag) {
     match &frag.node {
-        Node::Tip(leaf) => push_leaf(bytes, leaf),
+        Node::Tip(leaf) => add_leaf(bytes, leaf),
         Node::Cut {
             axis,
             value,
             left,
             right,
         } => {
-            bytes.push(0).ok()?;
-            bytes.push(*axis).ok()?;
-            push_all(bytes, &value.to_be_bytes())?;
-            push_frag(bytes, left)?;
-            push_frag(bytes, right)
+            bytes.add(&[0, *axis]);
+            bytes.add(&value.to_be_bytes());
+            add_frag(bytes, left);
+            add_frag(bytes, right);
         }
     }
 }
 
 /// The bytes of a page in use.
 pub(crate) fn bytes_of(alloc: Global, page: &LivePage) -> Option<Vec<u8>> {
-    let mut bytes = Vec::new(alloc);
-    bytes.push(1).ok()?;
-    bytes.push(page.level).ok()?;
-    bytes
-        .push(u8::try_from(page.area.lo().values().len()).ok()?)
-        .ok()?;
-    bytes.push(0).ok()?;
-    push_point(&mut bytes, page.area.lo())?;
-    push_point(&mut bytes, page.area.hi())?;
-    push_frag(&mut bytes, &page.frag)?;
-    bytes.resize(PAGE, 0).ok()?;
-    Some(bytes)
+    let mut bytes = Bytes::new(alloc);
+    bytes.add(&[1, page.level]);
+    bytes.short(page.area.lo().values().len());
+    bytes.add(&[0]);
+    add_point(&mut bytes, page.area.lo());
+    add_point(&mut bytes, page.area.hi());
+    add_frag(&mut bytes, &page.frag);
+    bytes.filled(PAGE)
 }
 
 /// Whether the page is in use, and one of the file.
