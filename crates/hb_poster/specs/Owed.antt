@@ -1,0 +1,30 @@
+-- Who is owed a leaf of a parent, where both pages are read from their bytes.
+use Rattle.std.specs.Prelude.{ℕ, List, Option, Some, None}
+use Rattle.hb_frag.specs.declared.pages.LivePage.{LivePage}
+use Rattle.hb_frag.specs.declared.pages.Page.{Page}
+use Rattle.hb_layout.specs.declared.meta.Meta.{Meta}
+use Rattle.hb_layout.specs.Limits.{IsLayout}
+use Rattle.hb_ops.specs.Owing.{IsOwed, OwesNothing}
+use Rattle.hb_ops.specs.Sound.{FitsFile}
+use Rattle.hb_activity.specs.declared.jobs.Job.{Job}
+use Rattle.hb_poster.specs.Asks.{LooksBelow}
+use Rattle.hb_poster.specs.declared.owing.Owed.{Owed}
+use Rattle.hb_view.specs.Views.{IsLiveAnd}
+
+-- both pages are in use, and this holds of the parent and of its child
+abbrev pub AreBoth : Page → Page → (LivePage → LivePage → Type 0) → Type 0
+AreBoth over child P = IsLiveAnd over (λ above. IsLiveAnd child (λ below. P above below))
+
+-- what a look at the child may rely on
+pub record MayLookBelow (meta : Meta) (job : Job) (over child : Page) : Type 0 where
+  pub layout : IsLayout meta
+  pub both : AreBoth over child (λ above below. FitsFile meta below × LooksBelow meta job above below)
+
+-- this page is owed a leaf, and these are the boxes of both leaves at the point
+abbrev pub IsOwedSo : LivePage → LivePage → List ℕ → Owed → Type 0
+IsOwedSo over child p owed = (outer : ℕ) × IsOwed over child p outer owed.inner owed.leaf owed.area
+
+-- so some page is, or none
+abbrev pub OwesTo : LivePage → LivePage → List ℕ → Option Owed → Type 0
+OwesTo over child p None = OwesNothing over child p
+OwesTo over child p (Some owed) = IsOwedSo over child p owed

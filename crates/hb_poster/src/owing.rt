@@ -1,0 +1,70 @@
+//! Who is owed a leaf of the parent, told from the bytes of the parent and of its child, and whether there is room for that.
+
+ghost use Rattle.std.specs.Prelude.{◌≡◌, ◌↔◌, IsTrue};
+ghost use Rattle.hb_ops.specs.Owing.{LacksRoom};
+ghost use Rattle.hb_poster.specs.Owed.{AreBoth, IsOwedSo, MayLookBelow, OwesTo};
+
+use hb_activity::Job;
+use hb_frag::carved_weight;
+use hb_layout::Meta;
+use hb_space::Area;
+use hb_view::{LeafView, PageView};
+
+/// A page to which the child gave a box, and which the parent doesn't name there.
+#[derive(Debug, Drop)]
+pub struct Owed {
+    pub inner: u32,
+    /// The box of the parent's leaf at the point.
+    pub leaf: Area,
+    /// The box that the child gave.
+    pub area: Area,
+}
+
+/// Who is owed a leaf of the parent at the job's point.
+pub(crate) fn owed_at(
+    job: &Job,
+    over: &PageView<'_>,
+    child: &PageView<'_>,
+    meta: &Meta,
+) -> Option<Owed>
+    requires { MayLookBelow meta.now job.now over.now child.now }
+    ensures { AreBoth over.now child.now (λ above below. OwesTo above below job.now.point result) }
+{
+    match (over.leaf_at(&job.point), child.leaf_at(&job.point)) {
+        ((LeafView::Child(outer), leaf), (LeafView::Sibling(inner), area)) if inner != outer => {
+            Some(Owed { inner, leaf, area })
+        }
+        _ => None,
+    }
+}
+
+/// Whether the parent has room for what is owed: what comes is a carved leaf, and what goes weighs 1.
+pub(crate) fn has_room(
+    job: &Job,
+    over: &PageView<'_>,
+    child: &PageView<'_>,
+    meta: &Meta,
+    owed: &Owed,
+) -> bool
+    requires below { MayLookBelow meta.now job.now over.now child.now }
+    requires owed { AreBoth over.now child.now (λ above below. IsOwedSo above below job.now.point owed.now) }
+    ensures { AreBoth over.now child.now (λ above below. IsTrue result ↔ (¬ (LacksRoom above below job.now.point meta.now.icap))) }
+{
+    over.weight() + carved_weight(&owed.leaf, &owed.area) <= u32::from(meta.icap) + 1
+}
+
+/// Whether the parent has no room for what is owed. Where nothing is, it isn't so.
+pub(crate) fn lacks_room(
+    job: &Job,
+    over: &PageView<'_>,
+    child: &PageView<'_>,
+    meta: &Meta,
+) -> bool
+    requires { MayLookBelow meta.now job.now over.now child.now }
+    ensures { AreBoth over.now child.now (λ above below. IsTrue result ↔ LacksRoom above below job.now.point meta.now.icap) }
+{
+    match owed_at(job, over, child, meta) {
+        Some(owed) => !has_room(job, over, child, meta, &owed),
+        None => false,
+    }
+}
