@@ -44,7 +44,7 @@ pub fn next_by_view(
 ) -> Result<Next, NoMemory>
     requires asked { IsAskedAt state meta.now view.now first }
     requires number { IsLiveAnd view.now (λ page. TellsNumber state meta.now page (if_live first) free) }
-    ensures row { IfOk result (IsRowAt state meta.entry.now id view.entry.now first.entry free) }
+    ensures row { IfOk result (IsRowAt state meta.now id view.now first.entry free) }
     ensures memory { OnErr result (IsPosterAgain state) }
 {
     match state {
@@ -158,7 +158,7 @@ fn look_again(
     requires below { MayLookBelow meta.now job over.now child.now }
     requires level { IsLiveAnd over.now (λ page. page.level ≡ job.level) }
     requires number { AreBoth over.now child.now (λ above below. TellsNumber (Activity.PosterAgain job parent) meta.now below (Some above) free) }
-    ensures { IfOk result (IsRowBelow (Activity.PosterAgain job parent) meta.entry.now parent id over.entry.now child.entry.now free) }
+    ensures { IfOk result (IsRowBelow (Activity.PosterAgain job parent) meta.now parent id over.now child.now free) }
 {
     if let Some((fresh, free_after)) = free {
         let page = decoded(alloc, over)?;
