@@ -18,11 +18,5 @@ GathersThere (Some wanted) m activity = (page : LivePage) × IsAtHand m activity
 abbrev pub Decodes : Option Wanted → Machine → Activity → Type 0
 Decodes wanted m (at.SessionWalk line held rest found) = WantsBoxes line.command × GathersThere wanted m (at.SessionWalk line held rest found)
 Decodes wanted m (at.SessionSplit line held) = m.store.meta.live < m.store.meta.pages
-Decodes wanted m (at.SessionPut line source fresh) = ⊥
-Decodes wanted m at.SessionIdle = ⊥
-Decodes wanted m (at.SessionAwait number reply place) = ⊥
-Decodes wanted m at.PosterIdle = ⊥
-Decodes wanted m at.ConsolidatorIdle = ⊥
-Decodes wanted m at.Flusher = ⊥
 Decodes wanted m (at.PosterAgain job parent) = Unit {0}
-Decodes wanted m worker = ⊥
+Decodes wanted m other = ⊥
