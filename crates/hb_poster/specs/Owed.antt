@@ -1,5 +1,6 @@
 -- Who is owed a leaf of a parent, where both pages are read from their bytes.
-use Rattle.std.specs.Prelude.{ℕ, List, Option, Some, None}
+use Rattle.std.specs.Prelude.{◌≡◌, ◌≢◌, ℕ, List, Option, Some, None}
+use Rattle.hb_space.specs.Boxes.{IsArea}
 use Rattle.hb_frag.specs.declared.pages.LivePage.{LivePage}
 use Rattle.hb_frag.specs.declared.pages.Page.{Page}
 use Rattle.hb_layout.specs.declared.meta.Meta.{Meta}
@@ -10,6 +11,8 @@ use Rattle.hb_activity.specs.declared.jobs.Job.{Job}
 use Rattle.hb_poster.specs.Asks.{LooksBelow}
 use Rattle.hb_poster.specs.declared.owing.Owed.{Owed}
 use Rattle.hb_view.specs.Views.{IsLiveAnd}
+use Rattle.hb_view.specs.declared.leaves.LeafView.{LeafView}
+use Rattle.hb_view.specs.declared.leaves.LeafView.TheVariants.{Child, Sibling}
 
 -- both pages are in use, and this holds of the parent and of its child
 abbrev pub AreBoth : Page → Page → (LivePage → LivePage → Type 0) → Type 0
@@ -21,8 +24,15 @@ pub record MayLookBelow (meta : Meta) (job : Job) (over child : Page) : Type 0 w
   pub both : AreBoth over child (λ above below. FitsFile meta below × LooksBelow meta job above below)
 
 -- this page is owed a leaf, and these are the boxes of both leaves at the point
-abbrev pub IsOwedSo : LivePage → LivePage → List ℕ → Owed → Type 0
-IsOwedSo over child p owed = (outer : ℕ) × IsOwed over child p outer owed.inner owed.leaf owed.area
+pub record IsOwedSo (over child : LivePage) (p : List ℕ) (owed : Owed) : Type 0 where
+  pub is_area : IsArea over.area
+  pub outer : ℕ
+  pub is_owed : IsOwed over child p outer owed.inner owed.leaf owed.area
+
+-- a sibling leaf names this page, and the child leaf above it another one; or it isn't so of the two leaves
+abbrev pub IsOtherNamed : LeafView → LeafView → Option ℕ → Type 0
+IsOtherNamed above below (Some inner) = (outer : ℕ) × (above ≡ Child outer) × (below ≡ Sibling inner) × (inner ≢ outer)
+IsOtherNamed above below None = (outer inner : ℕ) → above ≡ Child outer → below ≡ Sibling inner → inner ≡ outer
 
 -- so some page is, or none
 abbrev pub OwesTo : LivePage → LivePage → List ℕ → Option Owed → Type 0

@@ -1,8 +1,9 @@
 //! Who is owed a leaf of the parent, told from the bytes of the parent and of its child, and whether there is room for that.
 
-ghost use Rattle.std.specs.Prelude.{◌≡◌, ◌↔◌, IsTrue};
+ghost use Rattle.std.specs.Prelude.{◌≡◌, ◌↔◌, IsTrue, length};
+ghost use Rattle.hb_space.specs.Boxes.{Meets};
 ghost use Rattle.hb_ops.specs.Owing.{LacksRoom};
-ghost use Rattle.hb_poster.specs.Owed.{AreBoth, IsOwedSo, MayLookBelow, OwesTo};
+ghost use Rattle.hb_poster.specs.Owed.{AreBoth, IsOtherNamed, IsOwedSo, MayLookBelow, OwesTo};
 
 use hb_activity::Job;
 use hb_frag::carved_weight;
@@ -18,6 +19,8 @@ pub struct Owed {
     pub leaf: Area,
     /// The box that the child gave.
     pub area: Area,
+    ghost meets: { Meets leaf area },
+    ghost same: { length area.lo ≡ length leaf.lo },
 }
 
 /// Who is owed a leaf of the parent at the job's point.
@@ -30,10 +33,18 @@ pub(crate) fn owed_at(
     requires { MayLookBelow meta.now job.now over.now child.now }
     ensures { AreBoth over.now child.now (λ above below. OwesTo above below job.now.point result) }
 {
-    match (over.leaf_at(&job.point), child.leaf_at(&job.point)) {
-        ((LeafView::Child(outer), leaf), (LeafView::Sibling(inner), area)) if inner != outer => {
-            Some(Owed { inner, leaf, area })
-        }
+    let (above, leaf) = over.leaf_at(&job.point);
+    let (below, area) = child.leaf_at(&job.point);
+    let inner = other_named(above, below)?;
+    Some(Owed { inner, leaf, area })
+}
+
+// Whom a sibling leaf names, where that isn't the page that the child leaf above it names.
+fn other_named(above: LeafView, below: LeafView) -> Option<u32>
+    ensures { IsOtherNamed above below result }
+{
+    match (above, below) {
+        (LeafView::Child(outer), LeafView::Sibling(inner)) if inner != outer => Some(inner),
         _ => None,
     }
 }

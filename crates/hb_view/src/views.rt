@@ -135,7 +135,9 @@ impl<'a> PageView<'a> {
     pub fn leaf_at(&self, p: &Point) -> (LeafView, Area)
         requires well_cut { IsLiveAnd self.now WellCut }
         requires held { IsLiveAnd self.now (λ page. Holds page.area p.now) }
-        ensures { IsLiveAnd self.now (λ page. ShowsLeaf (leaf_at page p.now) result.0 result.1) }
+        ensures shows { IsLiveAnd self.now (λ page. ShowsLeaf (leaf_at page p.now) result.0 result.1) }
+        ensures inside { Holds result.1 p.now }
+        ensures area { IsLiveAnd self.now (λ page. IsArea page.area) }
     {
         leaf_in(&self.inside(), p)
     }

@@ -1,0 +1,139 @@
+-- Who is owed a leaf of the parent, told from the leaves that are seen of both pages, and what follows for the row.
+use Rattle.std.proofs.Common.{◌≡◌, ◌≢◌, ◌⊎◌, ◌↔◌, inl, inr, ℕ, ◌+◌, ◌<◌, ◌≤◌, Bool, IsTrue, List, [], ◌∷◌, length, Option, Some, None, refl, sym, ap, ◌∙◌, subst, arith}
+use Rattle.std.proofs.lemmas.Bool.{cases_lt}
+use Rattle.std.proofs.lemmas.Option.{same_Some}
+use Rattle.hb_activity.proofs.Facts.GivenPages.{first_given}
+use Rattle.hb_activity.specs.Deciding.{FitsFree, given_sight}
+use Rattle.hb_activity.specs.Deeds.{Deed, does, moves_to}
+use Rattle.hb_activity.specs.declared.activities.Activity.TheVariants as at
+use Rattle.hb_activity.specs.declared.jobs.Job.{Job}
+use Rattle.hb_frag.specs.Carving.{carved}
+use Rattle.hb_frag.specs.Leaves.{Placed, leaf_at, weight_of}
+use Rattle.hb_frag.specs.Paths.{way_to}
+use Rattle.hb_frag.specs.declared.leaves.Leaf.{Leaf}
+use Rattle.hb_frag.specs.declared.leaves.Leaf.TheVariants as leaves
+use Rattle.hb_frag.specs.declared.pages.LivePage.{LivePage}
+use Rattle.hb_frag.specs.declared.pages.Page.{Page}
+use Rattle.hb_frag.specs.declared.pages.Page.TheVariants.{Live, Free}
+use Rattle.hb_layout.specs.declared.meta.Meta.{Meta}
+use Rattle.hb_ops.specs.Owing.{IsOwed, LacksRoom, OwesNothing, Posts, posted_parent}
+use Rattle.hb_ops.specs.declared.operations.Op.TheVariants as ops
+use Rattle.hb_poster.proofs.Facts.ParentWeights.{light_parent}
+use Rattle.hb_poster.specs.Asks.{LooksBelow, TellsNumber}
+use Rattle.hb_poster.specs.Owed.{AreBoth, IsOtherNamed, IsOwedSo, MayLookBelow, OwesTo}
+use Rattle.hb_poster.specs.PosterRows.{DoesPlan, LooksAgain, LooksAtChild, PosterRow, after_look, ends_job}
+use Rattle.hb_poster.specs.declared.owing.Owed.{Owed}
+use Rattle.hb_space.specs.Boxes.{Area, IsArea, Holds}
+use Rattle.hb_terms.proofs.Facts.Owing.{one_plan, room_told}
+use Rattle.hb_terms.specs.Plans.{IsPlan}
+use Rattle.hb_terms.specs.declared.plans.PostPlan.{PostPlan}
+use Rattle.hb_terms.specs.declared.plans.PostPlan.TheVariants as plans
+use Rattle.hb_view.specs.Views.{IsLiveAnd, ShowsLeaf, leaf_view}
+use Rattle.hb_view.specs.declared.leaves.LeafView.{LeafView}
+use Rattle.hb_view.specs.declared.leaves.LeafView.TheVariants as views
+
+-- ---- the two leaves
+
+child_leaf : (leaf : Leaf) (name : ℕ) → views.Child name ≡ leaf_view leaf → leaf ≡ leaves.Child name
+child_leaf (leaves.Records records) name is = cc
+child_leaf (leaves.Child page) name is = cc
+child_leaf (leaves.Sibling page) name is = cc
+
+sibling_leaf : (leaf : Leaf) (name : ℕ) → views.Sibling name ≡ leaf_view leaf → leaf ≡ leaves.Sibling name
+sibling_leaf (leaves.Records records) name is = cc
+sibling_leaf (leaves.Child page) name is = cc
+sibling_leaf (leaves.Sibling page) name is = cc
+
+abbrev Shows : List ℕ → LeafView → Area → LivePage → Type 0
+Shows p view area page = ShowsLeaf (leaf_at page p) view area
+
+-- a leaf that is seen so is this one
+found_so : (page : LivePage) (p : List ℕ) (view : LeafView) (area : Area) (shows : Shows p view area page) (own : Leaf) → shows.placed.leaf ≡ own → leaf_at page p ≡ Some (record { leaf = own; area = area })
+found_so page p view area shows own is = shows.found ∙ (λ i. Some (record { leaf = is i; area = sym shows.area i }))
+
+-- and one that is there is seen so
+seen_as_leaf : (page : LivePage) (p : List ℕ) (view : LeafView) (area : Area) → Shows p view area page → (own : Leaf) (box : Area) → leaf_at page p ≡ Some (record { leaf = own; area = box }) → view ≡ leaf_view own
+seen_as_leaf page p view area shows own box there =
+    let same = same_Some shows.placed (record { leaf = own; area = box }) (sym shows.found ∙ there) in
+    shows.leaf ∙ ap (λ (l : Placed). leaf_view l.leaf) same
+
+pub owes_none : (over child : Page) (p : List ℕ) (above below : LeafView) (leaf area : Area) → IsLiveAnd over (Shows p above leaf) → IsLiveAnd child (Shows p below area) → IsOtherNamed above below None → AreBoth over child (λ a b. OwesTo a b p None)
+owes_none (Live over) (Live child) p above below leaf area up down same = λ outer inner box given owed.
+    owed.other (same outer inner (seen_as_leaf over p above leaf up (leaves.Child outer) box owed.above) (seen_as_leaf child p below area down (leaves.Sibling inner) given owed.below))
+owes_none (Live over) (Free next) p above below leaf area up down same = absurd down
+owes_none (Free next) child p above below leaf area up down same = absurd up
+
+pub owes_some : (over child : Page) (p : List ℕ) (above below : LeafView) (owed : Owed) → IsLiveAnd over (Shows p above owed.leaf) → IsLiveAnd over (λ page. IsArea page.area) → IsLiveAnd child (Shows p below owed.area) → IsOtherNamed above below (Some owed.inner) → AreBoth over child (λ a b. OwesTo a b p (Some owed))
+owes_some (Live over) (Live child) p above below owed up is_area down (outer, is_child, is_sibling, other) = record {
+  is_area = is_area;
+  outer = outer;
+  is_owed = record {
+    above = found_so over p above owed.leaf up (leaves.Child outer) (child_leaf up.placed.leaf outer (sym is_child ∙ up.leaf));
+    below = found_so child p below owed.area down (leaves.Sibling owed.inner) (sibling_leaf down.placed.leaf owed.inner (sym is_sibling ∙ down.leaf));
+    other = other;
+  };
+}
+owes_some (Live over) (Free next) p above below owed up is_area down named = absurd down
+owes_some (Free next) child p above below owed up is_area down named = absurd up
+
+-- ---- room
+
+module _ (meta : Meta) (job : Job) (over child : LivePage) (looks : LooksBelow meta job over child) (owed : Owed) (so : IsOwedSo over child job.point owed) where
+  abbrev posted : ℕ
+  posted = weight_of (posted_parent over job.point so.outer owed.inner owed.leaf owed.area)
+
+  told : (posted ≤ meta.icap) ↔ (weight_of over.frag + weight_of (carved owed.leaf owed.area so.outer owed.inner) ≤ meta.icap + 1)
+  told = room_told over job.point so.outer owed.inner meta.icap owed.leaf owed.area so.is_area looks.made.well_cut looks.held so.is_owed.above looks.made.normal (light_parent meta job over looks.made looks.leads) so.is_owed.other
+
+  pub posts_there : posted ≤ meta.icap → Posts over child job.point meta.icap (way_to job.point over.frag) owed.inner owed.area
+  posts_there room = record { outer = so.outer; leaf = owed.leaf; owed = so.is_owed; way = refl; room = room }
+
+  pub lacks_there : meta.icap < posted → LacksRoom over child job.point meta.icap
+  lacks_there heavy = record { outer = so.outer; inner = owed.inner; leaf = owed.leaf; area = owed.area; owed = so.is_owed; heavy = heavy }
+
+  never_both : posted ≤ meta.icap → LacksRoom over child job.point meta.icap → ⊥
+  never_both room lacks = other (one_plan over child job.point meta.icap (plans.Post (way_to job.point over.frag) owed.inner owed.area) plans.SplitFirst (posts_there room) lacks)
+    where
+      other : plans.Post (way_to job.point over.frag) owed.inner owed.area ≡ plans.SplitFirst → ⊥
+      other same = cc
+
+  pub room_or_none : (posted ≤ meta.icap) ⊎ LacksRoom over child job.point meta.icap
+  room_or_none = elim (cases_lt meta.icap posted) [ inl heavy ↦ inr (lacks_there heavy) | inr room ↦ inl room ]
+
+  -- whether it has room is what the two weights say
+  pub room_seen : (b : Bool) → IsTrue b ↔ (weight_of over.frag + weight_of (carved owed.leaf owed.area so.outer owed.inner) ≤ meta.icap + 1) → IsTrue b ↔ (¬ (LacksRoom over child job.point meta.icap))
+  room_seen b says = (
+    λ yes lacks. never_both (told.1 (says.0 yes)) lacks,
+    λ has. elim room_or_none [ inl room ↦ says.1 (told.0 room) | inr lacks ↦ absurd (has lacks) ],
+  )
+
+  -- ---- the rows
+
+  module _ (parent id : ℕ) (free : Option (ℕ × ℕ)) where
+    -- some plan is made, whichever it is, and the parent is promoted
+    pub promotes : (deed : Deed) → deed ≡ moves_to (at.PosterPromote job parent) [] → LooksAtChild (given_sight meta ((parent, over) ∷ (id, child) ∷ []) free) job parent child deed
+    promotes deed is = elim room_or_none [
+      | inl room ↦ record { page = over; live = first_given parent over ((id, child) ∷ []); plan = plans.Post (way_to job.point over.frag) owed.inner owed.area; planned = posts_there room; deed_is = is }
+      | inr lacks ↦ record { page = over; live = first_given parent over ((id, child) ∷ []); plan = plans.SplitFirst; planned = lacks; deed_is = is }
+    ]
+
+    -- no number is given: the parent has room, or no page is free
+    pub posts_row : (deed : Deed) → (LacksRoom over child job.point meta.icap → ⊥) → deed ≡ does at.PosterIdle (ops.Post parent (way_to job.point over.frag) owed.inner owed.area) (job ∷ []) → LooksAgain (given_sight meta ((parent, over) ∷ (id, child) ∷ []) free) job parent child deed
+    posts_row deed has is = elim room_or_none [
+      | inl room ↦ record { page = over; live = first_given parent over ((id, child) ∷ []); plan = plans.Post (way_to job.point over.frag) owed.inner owed.area; planned = posts_there room; does_it = is }
+      | inr lacks ↦ absurd (has lacks)
+    ]
+
+    pub full_row : (deed : Deed) → LacksRoom over child job.point meta.icap → meta.live ≡ meta.pages → deed ≡ ends_job → LooksAgain (given_sight meta ((parent, over) ∷ (id, child) ∷ []) free) job parent child deed
+    full_row deed lacks full is = record { page = over; live = first_given parent over ((id, child) ∷ []); plan = plans.SplitFirst; planned = lacks; does_it = inl (record { none_free = full; deed_is = is }) }
+
+-- where none is owed the job ends, at a look and at a look again
+pub nothing_row : (meta : Meta) (job : Job) (over child : LivePage) (parent id : ℕ) (free : Option (ℕ × ℕ)) (deed : Deed) → OwesNothing over child job.point → deed ≡ ends_job → LooksAgain (given_sight meta ((parent, over) ∷ (id, child) ∷ []) free) job parent child deed
+nothing_row meta job over child parent id free deed none is = record { page = over; live = first_given parent over ((id, child) ∷ []); plan = plans.Nothing; planned = none; does_it = is }
+
+pub ends_row : (meta : Meta) (job : Job) (over child : LivePage) (parent id : ℕ) (free : Option (ℕ × ℕ)) (deed : Deed) → OwesNothing over child job.point → deed ≡ ends_job → LooksAtChild (given_sight meta ((parent, over) ∷ (id, child) ∷ []) free) job parent child deed
+ends_row meta job over child parent id free deed none is = record { page = over; live = first_given parent over ((id, child) ∷ []); plan = plans.Nothing; planned = none; deed_is = is }
+
+-- a number tells that the parent has no room, and where none is given and a page is free it has
+pub has_room_untold : (meta : Meta) (job : Job) (parent : ℕ) (over child : LivePage) → TellsNumber (at.PosterAgain job parent) meta child (Some over) None → meta.live < meta.pages → LacksRoom over child job.point meta.icap → ⊥
+has_room_untold meta job parent over child number free lacks = let full : meta.live ≡ meta.pages = number.fits lacks in absurd (omega (arith, free, full))
