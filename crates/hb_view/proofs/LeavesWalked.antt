@@ -48,7 +48,7 @@ module _ (k : ℕ) (bytes left : List ℕ) (axis value : ℕ) (cut : IsCutAt k b
   cut_there zero some there = absurd (omega arith)
   cut_there (suc n) some there =
       let e : suc (suc n) ≡ suc n + 1 = omega arith in
-      subst (λ (m : ℕ). AreTreesAt m k left) e (cut.left_there, cut.right_there, subst (λ (b : List ℕ). AreTreesAt n k b) cut.rest there.1)
+      subst (λ (m : ℕ). AreTreesAt m k left) e (cut.left_there, (cut.right_there, subst (λ (b : List ℕ). AreTreesAt n k b) cut.rest there.1))
 
   both_views : (n : ℕ) → views_there (suc n) k bytes ≡ views_there (suc (suc n)) k left
   both_views n =

@@ -70,7 +70,7 @@ fn next_leaf(k: Attributes, trees: usize, bytes: &[u8]) -> (Option<LeafView>, us
     let mut left = trees;
     let mut rest = bytes;
     while left > 0 {
-        let (leaf, more, behind) = past_root(k, left, rest);
+        let (leaf, more, behind) = past_first(k, left, rest);
         if leaf.is_some() {
             return (leaf, more, behind);
         }
@@ -82,7 +82,7 @@ fn next_leaf(k: Attributes, trees: usize, bytes: &[u8]) -> (Option<LeafView>, us
 
 /// Goes past the first node of so many trees: the leaf that it is, and how many trees are left, with their bytes. A cut has two
 /// trees in place of one.
-fn past_root(k: Attributes, trees: usize, bytes: &[u8]) -> (Option<LeafView>, usize, &[u8])
+fn past_first(k: Attributes, trees: usize, bytes: &[u8]) -> (Option<LeafView>, usize, &[u8])
     requires some { 0 < trees }
     requires there { AreTreesAt trees k.number bytes.now }
     requires few { trees + length bytes.now ≤ 2 ^ 63 }

@@ -1,10 +1,6 @@
 use Rattle.hb_frag.specs.declared.leaves.Leaf.TheVariants as leaf
-use Rattle.hb_view.proofs.LeavesWalked.{cut_fewer, cut_there, cut_views, first_there, leaf_fewer, leaf_there, leaf_views, list_name}
-use Rattle.hb_view.proofs.leaf_walks.past_root.Goals as goal
-
--- (names of goals are guesses: `rt check --start past_root` gives them)
-pub invariant_of-TreeView : goal.invariant_of-TreeView
-invariant_of-TreeView c = first_there c.args.k.number c.args.trees c.args.bytes.now c.requires.some c.requires.there
+use Rattle.hb_view.proofs.LeavesWalked.{cut_fewer, cut_there, cut_views, leaf_fewer, leaf_there, leaf_views, list_name}
+use Rattle.hb_view.proofs.leaf_walks.past_first.Goals as goal
 
 pub returns-in-Cut-clause-there : goal.returns-in-Cut-clause-there
 returns-in-Cut-clause-there c = cut_there c.args.k.number c.args.bytes.now c.in-Cut.left.now _ _ c.in-Cut.ensures c.args.trees c.requires.some c.requires.there
