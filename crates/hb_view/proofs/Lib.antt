@@ -20,3 +20,4 @@ pub mod ListsPassed
 pub mod PassedOver
 pub mod Followed
 pub mod LeavesWalked
+pub mod Covered
