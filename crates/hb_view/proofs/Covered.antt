@@ -4,16 +4,21 @@ use Rattle.std.proofs.Common.{◌≡◌, ◌⊎◌, ◌↔◌, inl, inr, ℕ, �
 use Rattle.std.specs.Option.{option_eq}
 use Rattle.std.proofs.lemmas.Bool.{eqb-false}
 use Rattle.hb_lemmas.proofs.Lists.{All-one, All-parts}
-use Rattle.hb_space.specs.Boxes.{Area, Meets, side_below, side_from}
+use Rattle.hb_space.specs.Boxes.{Area, Meets, Within, side_below, side_from}
 use Rattle.hb_frag.specs.declared.leaves.Leaf.TheVariants.{Records, Child, Sibling}
-use Rattle.hb_frag.specs.Leaves.{IsPointer, leaves, leaves_of, siblings, weight_of}
+use Rattle.hb_frag.specs.declared.pages.Page.{Page}
+use Rattle.hb_frag.specs.declared.pages.Page.TheVariants.{Live, Free}
+use Rattle.hb_frag.specs.Leaves.{DirectlyCovers, IsPointer, leaves, leaves_of, siblings, weight_of}
 use Rattle.hb_frag.specs.Normal.{one_leaf_or_cut}
 use Rattle.hb_frag.specs.Trees.{Tree, Tip, Cut}
 use Rattle.hb_frag.proofs.Facts.NamesListed.{siblings-append}
 use Rattle.hb_frag.proofs.Facts.Parts.{weight_cut}
 use Rattle.hb_view.specs.Renamed.{IsRenamedSo, after_renaming, lone_child}
 use Rattle.hb_view.specs.Roots.{IsCutAt, IsNameAt, rest_there, tree_there}
+use Rattle.hb_view.specs.Seen.{area_seen, tree_seen}
+use Rattle.hb_view.specs.Views.{HasInside, IsLiveAnd}
 use Rattle.hb_view.specs.Walks.{WalksOver}
+use Rattle.hb_view.specs.declared.trees.Inside.{Inside}
 
 -- ---- sibling leaves clear of a box
 
@@ -116,3 +121,13 @@ unlike (Some a) (Some b) is = λ same. let e : a ≡ b = cc in eqb-false a b is 
 pub none_there : (one : Option ℕ) → is_some one ≡ false → one ≡ None
 none_there None is = refl
 none_there (Some a) is = cc
+
+-- what the box and the sibling leaves of a page in use say together
+pub directly_so : (v : Page) (a box : Area) (inside : Inside) (within clear : Bool) → IsLiveAnd v (λ page. box ≡ page.area) → IsLiveAnd v (λ page. HasInside page inside) → (IsTrue within ↔ Within a box) → within ≡ true → (IsTrue clear ↔ IsClear a (tree_seen inside.tree) (area_seen inside))
+    → IsLiveAnd v (λ page. IsTrue clear ↔ DirectlyCovers page a)
+directly_so (Live page) a box inside within clear its has lies is tells =
+    let seen : IsClear a (tree_seen inside.tree) (area_seen inside) ≡ IsClear a page.frag page.area = λ i. IsClear a (has.tree i) (has.area i) in (
+      λ yes. record { inside = subst (Within a) its (lies.0 is); not_given = subst (λ (P : Type 0). P) seen (tells.0 yes) },
+      λ d. tells.1 (subst (λ (P : Type 0). P) (sym seen) d.not_given),
+    )
+directly_so (Free next) a box inside within clear its has lies is tells = absurd has
