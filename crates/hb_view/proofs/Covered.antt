@@ -1,6 +1,6 @@
 -- What walks over the two sides of a cut say of the sibling leaves of the whole, whose boxes meet no other box; and of the weight of
 -- the whole, once a page takes another one's place.
-use Rattle.std.proofs.Common.{◌≡◌, ◌⊎◌, ◌↔◌, inl, inr, ℕ, ◌+◌, ◌≤◌, ◌==◌, Bool, true, false, cond, List, [], ◌∷◌, ◌++◌, length, All, IsTrue, Option, Some, None, option_map, is_some, refl, sym, ap, subst, ◌∙◌, ne_eqb, arith}
+use Rattle.std.proofs.Common.{◌≡◌, ◌⊎◌, ◌↔◌, inl, inr, ℕ, ◌+◌, ◌==◌, Bool, true, false, cond, List, All, IsTrue, Option, Some, None, option_map, is_some, refl, sym, ap, subst, ◌∙◌, ne_eqb}
 use Rattle.std.specs.Option.{option_eq}
 use Rattle.std.proofs.lemmas.Bool.{eqb-false}
 use Rattle.hb_lemmas.proofs.Lists.{All-one, All-parts}

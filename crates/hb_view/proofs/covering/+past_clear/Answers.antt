@@ -1,6 +1,5 @@
-use Rattle.std.proofs.Common.{ℕ, List, length, None, Some, option_map, ap, sym, ◌∙◌, arith}
-use Rattle.hb_space.specs.Boxes.{Area, side_below, side_from}
-use Rattle.hb_frag.specs.Trees.{Tree}
+use Rattle.std.proofs.Common.{ℕ, List, length, None, Some, ap, sym, ◌∙◌, arith}
+use Rattle.hb_space.specs.Boxes.{Area, side_from}
 use Rattle.hb_view.specs.Roots.{tree_there, rest_there}
 use Rattle.hb_view.proofs.Covered.{IsClear, clear_splits, sibling_passes}
 use Rattle.hb_frag.proofs.Facts.Sides.{same-side_from}
