@@ -1,9 +1,13 @@
 -- Who is owed a leaf of the parent, told from the leaves that are seen of both pages, and what follows for the row.
-use Rattle.std.proofs.Common.{◌≡◌, ◌≢◌, ◌⊎◌, ◌↔◌, inl, inr, ℕ, ◌+◌, ◌<◌, ◌≤◌, Bool, IsTrue, List, [], ◌∷◌, length, Option, Some, None, refl, sym, ap, ◌∙◌, subst, arith}
+use Rattle.std.proofs.Common.{◌≡◌, ◌≢◌, ◌⊎◌, ◌↔◌, inl, inr, ℕ, ◌+◌, ◌<◌, ◌≤◌, Bool, false, IsTrue, List, [], ◌∷◌, length, Option, Some, None, refl, sym, ap, ◌∙◌, subst, arith}
 use Rattle.std.proofs.lemmas.Bool.{cases_lt}
 use Rattle.std.proofs.lemmas.Option.{same_Some}
 use Rattle.hb_activity.proofs.Facts.GivenPages.{first_given}
-use Rattle.hb_activity.specs.Deciding.{FitsFree, given_sight}
+use Rattle.hb_activity.specs.Deciding.{NextIs, deed_of, given_sight}
+use Rattle.hb_activity.specs.declared.activities.Activity.{Activity}
+use Rattle.hb_activity.specs.declared.deciding.Fate.TheVariants as fates
+use Rattle.hb_activity.specs.declared.deciding.Next.{Next}
+use Rattle.hb_poster.specs.Viewed.{IsRowBelow}
 use Rattle.hb_activity.specs.Deeds.{Deed, does, moves_to}
 use Rattle.hb_activity.specs.declared.activities.Activity.TheVariants as at
 use Rattle.hb_activity.specs.declared.jobs.Job.{Job}
@@ -22,7 +26,7 @@ use Rattle.hb_poster.proofs.Facts.ParentWeights.{light_parent}
 use Rattle.hb_poster.specs.Asks.{LooksBelow, TellsNumber}
 use Rattle.hb_poster.specs.Owed.{AreBoth, IsOtherNamed, IsOwedSo, MayLookBelow, OwesTo}
 use Rattle.hb_poster.specs.PosterRows.{DoesPlan, LooksAgain, LooksAtChild, PosterRow, after_look, ends_job}
-use Rattle.hb_poster.specs.declared.owing.Owed.{Owed}
+use Rattle.hb_poster.specs.declared.owed.Owed.{Owed}
 use Rattle.hb_space.specs.Boxes.{Area, IsArea, Holds}
 use Rattle.hb_terms.proofs.Facts.Owing.{one_plan, room_told}
 use Rattle.hb_terms.specs.Plans.{IsPlan}
@@ -137,3 +141,34 @@ ends_row meta job over child parent id free deed none is = record { page = over;
 -- a number tells that the parent has no room, and where none is given and a page is free it has
 pub has_room_untold : (meta : Meta) (job : Job) (parent : ℕ) (over child : LivePage) → TellsNumber (at.PosterAgain job parent) meta child (Some over) None → meta.live < meta.pages → LacksRoom over child job.point meta.icap → ⊥
 has_room_untold meta job parent over child number free lacks = let full : meta.live ≡ meta.pages = number.fits lacks in absurd (omega (arith, free, full))
+
+-- ---- of views
+
+pub room_both : (over child : Page) (meta : Meta) (job : Job) (owed : Owed) (weight more : ℕ) (b : Bool) → MayLookBelow meta job over child → AreBoth over child (λ above below. IsOwedSo above below job.point owed) → IsLiveAnd over (λ page. weight ≡ weight_of page.frag)
+    → ((outer name : ℕ) → more ≡ weight_of (carved owed.leaf owed.area outer name)) → (IsTrue b ↔ (weight + more ≤ meta.icap + 1)) → AreBoth over child (λ above below. IsTrue b ↔ (¬ (LacksRoom above below job.point meta.icap)))
+room_both (Live over) (Live child) meta job owed weight more b may so weighs carves says =
+    let all : weight + more ≡ weight_of over.frag + weight_of (carved owed.leaf owed.area so.outer owed.inner) = λ i. weighs i + carves so.outer owed.inner i in
+    room_seen meta job over child may.both.1 owed so b (subst (λ (n : ℕ). IsTrue b ↔ (n ≤ meta.icap + 1)) all says)
+room_both (Live over) (Free next) meta job owed weight more b may so weighs carves says = absurd so
+room_both (Free next) child meta job owed weight more b may so weighs carves says = absurd so
+
+pub none_lacks : (over child : Page) (p : List ℕ) (icap : ℕ) → AreBoth over child (λ above below. OwesTo above below p None) → AreBoth over child (λ above below. IsTrue false ↔ LacksRoom above below p icap)
+none_lacks (Live over) (Live child) p icap none = (λ yes. let no : ⊥ = cc in absurd no, λ lacks. absurd (none lacks.outer lacks.inner lacks.leaf lacks.area lacks.owed))
+none_lacks (Live over) (Free next) p icap none = absurd none
+none_lacks (Free next) child p icap none = absurd none
+
+-- what is said that moves on
+pub moved_is : (activity then : Activity) (next : Next) → NextIs next then None [] fates.GoesOn → deed_of activity next ≡ deed_of activity (record { then = then; op = None; jobs = record { items = [] }; fate = fates.GoesOn })
+moved_is activity then next is = λ i. deed_of activity (record { then = is.stands i; op = is.op i; jobs = record { items = is.jobs i }; fate = is.fate i })
+
+pub look_none : (over child : Page) (meta : Meta) (job : Job) (parent id : ℕ) (next : Next) → AreBoth over child (λ above below. OwesTo above below job.point None) → NextIs next at.PosterIdle None [] fates.GoesOn → (free : Option (ℕ × ℕ)) → IsRowBelow (at.PosterChild job parent) meta parent id over child free next
+look_none (Live over) (Live child) meta job parent id next none is free = ends_row meta job over child parent id free (deed_of (at.PosterChild job parent) next) none (moved_is (at.PosterChild job parent) at.PosterIdle next is)
+look_none (Live over) (Free other) meta job parent id next none is free = absurd none
+look_none (Free other) child meta job parent id next none is free = absurd none
+
+pub look_some : (over child : Page) (meta : Meta) (job : Job) (parent id : ℕ) (next : Next) (owed : Owed) → MayLookBelow meta job over child → AreBoth over child (λ above below. OwesTo above below job.point (Some owed)) → NextIs next (at.PosterPromote job parent) None [] fates.GoesOn
+    → (free : Option (ℕ × ℕ)) → IsRowBelow (at.PosterChild job parent) meta parent id over child free next
+look_some (Live over) (Live child) meta job parent id next owed may so is free =
+    promotes meta job over child may.both.1 owed so parent id free (deed_of (at.PosterChild job parent) next) (moved_is (at.PosterChild job parent) (at.PosterPromote job parent) next is)
+look_some (Live over) (Free other) meta job parent id next owed may so is free = absurd so
+look_some (Free other) child meta job parent id next owed may so is free = absurd so

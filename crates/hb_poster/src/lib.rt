@@ -16,11 +16,12 @@ mod deciding;
 pub mod examples;
 mod growing;
 pub mod laws;
+mod owed;
 mod owing;
 mod posting;
 mod viewing;
 mod walking;
 
 pub use deciding::{descend, needs_number, next};
-pub use owing::Owed;
+pub use owed::Owed;
 pub use viewing::{needs_number_by_view, next_by_view};

@@ -1,27 +1,14 @@
 //! Who is owed a leaf of the parent, told from the bytes of the parent and of its child, and whether there is room for that.
 
-ghost use Rattle.std.specs.Prelude.{◌≡◌, ◌↔◌, IsTrue, length};
-ghost use Rattle.hb_space.specs.Boxes.{Meets};
+ghost use Rattle.std.specs.Prelude.{◌≡◌, ◌+◌, ◌≤◌, ◌↔◌, IsTrue};
 ghost use Rattle.hb_ops.specs.Owing.{LacksRoom};
 ghost use Rattle.hb_poster.specs.Owed.{AreBoth, IsOtherNamed, IsOwedSo, MayLookBelow, OwesTo};
 
+use crate::owed::Owed;
 use hb_activity::Job;
 use hb_frag::carved_weight;
 use hb_layout::Meta;
-use hb_space::Area;
 use hb_view::{LeafView, PageView};
-
-/// A page to which the child gave a box, and which the parent doesn't name there.
-#[derive(Debug, Drop)]
-pub struct Owed {
-    pub inner: u32,
-    /// The box of the parent's leaf at the point.
-    pub leaf: Area,
-    /// The box that the child gave.
-    pub area: Area,
-    ghost meets: { Meets leaf area },
-    ghost same: { length area.lo ≡ length leaf.lo },
-}
 
 /// Who is owed a leaf of the parent at the job's point.
 pub(crate) fn owed_at(
@@ -35,7 +22,9 @@ pub(crate) fn owed_at(
 {
     let (above, leaf) = over.leaf_at(&job.point);
     let (below, area) = child.leaf_at(&job.point);
-    let inner = other_named(above, below)?;
+    let Some(inner) = other_named(above, below) else {
+        return None;
+    };
     Some(Owed { inner, leaf, area })
 }
 
@@ -61,7 +50,14 @@ pub(crate) fn has_room(
     requires owed { AreBoth over.now child.now (λ above below. IsOwedSo above below job.now.point owed.now) }
     ensures { AreBoth over.now child.now (λ above below. IsTrue result ↔ (¬ (LacksRoom above below job.now.point meta.now.icap))) }
 {
-    over.weight() + carved_weight(&owed.leaf, &owed.area) <= u32::from(meta.icap) + 1
+    are_light(over.weight(), carved_weight(&owed.leaf, &owed.area), meta.icap)
+}
+
+// Whether two weights are at most one more than may be.
+fn are_light(weight: u32, more: u32, icap: u16) -> bool
+    ensures { IsTrue result ↔ (weight + more ≤ icap + 1) }
+{
+    u64::from(weight) + u64::from(more) <= u64::from(icap) + 1
 }
 
 /// Whether the parent has no room for what is owed. Where nothing is, it isn't so.

@@ -9,8 +9,9 @@ ghost use Rattle.hb_frag.specs.Leaves.{siblings_of};
 ghost use Rattle.hb_layout.specs.declared.meta.Meta.{Meta as Facts};
 ghost use Rattle.hb_ops.specs.Files.{if_live};
 ghost use Rattle.hb_poster.specs.Asks.{IsAskedAt, IsPosterAgain, MakesPage, TellsNumber};
-ghost use Rattle.hb_poster.specs.Owed.{AreBoth, MayLookBelow};
-ghost use Rattle.hb_poster.specs.PosterRows.{MayGrow, PosterRow};
+ghost use Rattle.hb_activity.specs.Sights.{Sight};
+ghost use Rattle.hb_poster.specs.Owed.{AreBoth, CanBeSplit, MayLookBelow};
+ghost use Rattle.hb_poster.specs.PosterRows.{MayGrow, PosterRow, SplitsParent};
 ghost use Rattle.hb_poster.specs.Viewed.{IsRowAt, IsRowBelow};
 ghost use Rattle.hb_view.specs.Views.{IsLive, IsLiveAnd};
 
@@ -161,8 +162,7 @@ fn look_again(
     ensures { IfOk result (IsRowBelow (Activity.PosterAgain job parent) meta.now parent id over.now child.now free) }
 {
     if let Some((fresh, free_after)) = free {
-        let page = decoded(alloc, over)?;
-        return split(alloc, job, parent, &page, fresh, free_after);
+        return split_decoded(alloc, job, parent, over, fresh, free_after);
     }
     let Some(owed) = owed_at(&job, over, child, meta) else {
         return Ok(Next::moves(Activity::PosterIdle));
@@ -177,6 +177,24 @@ fn look_again(
         area: owed.area,
     };
     Ok(Next::does(Activity::PosterIdle, op, job))
+}
+
+// The parent is decoded and split.
+fn split_decoded(
+    alloc: Global,
+    job: Job,
+    parent: u32,
+    over: &PageView<'_>,
+    fresh: u32,
+    free_after: u32,
+) -> Result<Next, NoMemory>
+    requires parent { IsLiveAnd over.now CanBeSplit }
+    requires low { job.level < 255 }
+    ensures { IfOk result (λ next. IsLiveAnd over.now (λ page. (s : Sight) → s.meta.live < s.meta.pages → s.next ≡ Some (fresh, free_after) →
+        SplitsParent s job parent page (deed_of (Activity.PosterAgain job parent) next))) }
+{
+    let page = decoded(alloc, over)?;
+    split(alloc, job, parent, &page, fresh, free_after)
 }
 
 // The page in use, with memory of its own.

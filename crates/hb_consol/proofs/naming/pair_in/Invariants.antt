@@ -6,12 +6,12 @@ use Rattle.hb_frag.specs.Leaves.{leaves}
 use Rattle.hb_view.specs.Views.{IsLiveAnd}
 use Rattle.hb_consol.proofs.naming.pair_in.Given as goal
 
--- the first pair among the leaves that are left is that of all, and so many leaves were passed (the loop's name is a guess)
-abbrev pub invariant-loop : goal.invariant-loop
-invariant-loop l = record {
+-- the first pair among the leaves that are left is that of all, and so many leaves were passed
+abbrev pub invariant-loop-leaf : goal.invariant-loop-leaf
+invariant-loop-leaf l = record {
   pairs : AreTwo l.above l.kept (λ over own. pair_from over own l.from ≡ LeftPairs over l.from l.place l.walk);
   passed : IsLiveAnd l.kept (λ own. l.place + length l.walk ≡ length (leaves own.frag));
 }
 
-abbrev pub decreases-loop : goal.decreases-loop
-decreases-loop l = length l.walk
+abbrev pub decreases-loop-leaf : goal.decreases-loop-leaf
+decreases-loop-leaf l = length l.walk
