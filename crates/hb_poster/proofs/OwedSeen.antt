@@ -1,18 +1,22 @@
 -- Who is owed a leaf of the parent, told from the leaves that are seen of both pages, and what follows for the row.
-use Rattle.std.proofs.Common.{◌≡◌, ◌≢◌, ◌⊎◌, ◌↔◌, inl, inr, ℕ, ◌+◌, ◌<◌, ◌≤◌, Bool, false, IsTrue, List, [], ◌∷◌, length, Option, Some, None, refl, sym, ap, ◌∙◌, subst, arith}
-use Rattle.std.proofs.lemmas.Bool.{cases_lt}
+use Rattle.std.proofs.Common.{◌≡◌, ◌≢◌, ◌⊎◌, ◌↔◌, inl, inr, ℕ, ◌+◌, ◌<◌, ◌≤◌, Bool, false, IsTrue, List, [], ◌∷◌, map, Option, Some, None, refl, sym, ap, ◌∙◌, subst, arith}
+use Rattle.std.proofs.lemmas.Bool.{cases_lt, false≢true}
 use Rattle.std.proofs.lemmas.Option.{same_Some}
 use Rattle.hb_activity.proofs.Facts.GivenPages.{first_given}
 use Rattle.hb_activity.specs.Deciding.{NextIs, deed_of, given_sight}
 use Rattle.hb_activity.specs.declared.activities.Activity.{Activity}
 use Rattle.hb_activity.specs.declared.deciding.Fate.TheVariants as fates
 use Rattle.hb_activity.specs.declared.deciding.Next.{Next}
-use Rattle.hb_poster.specs.Viewed.{IsRowBelow}
+use Rattle.hb_poster.specs.Viewed.{HasSibling, IsRowBelow}
 use Rattle.hb_activity.specs.Deeds.{Deed, does, moves_to}
 use Rattle.hb_activity.specs.declared.activities.Activity.TheVariants as at
 use Rattle.hb_activity.specs.declared.jobs.Job.{Job}
 use Rattle.hb_frag.specs.Carving.{carved}
-use Rattle.hb_frag.specs.Leaves.{Placed, leaf_at, weight_of}
+use Rattle.hb_frag.specs.Leaves.{Placed, leaf_at, leaves_of, siblings, siblings_of, weight_of}
+use Rattle.hb_frag.specs.Leaves.{leaves as kept_leaves}
+use Rattle.hb_frag.proofs.Facts.Tiles.{leaves_placed}
+use Rattle.hb_lemmas.proofs.Lists.{not_empty}
+use Rattle.hb_activity.specs.Sights.{Sight}
 use Rattle.hb_frag.specs.Paths.{way_to}
 use Rattle.hb_frag.specs.declared.leaves.Leaf.{Leaf}
 use Rattle.hb_frag.specs.declared.leaves.Leaf.TheVariants as leaves
@@ -22,10 +26,10 @@ use Rattle.hb_frag.specs.declared.pages.Page.TheVariants.{Live, Free}
 use Rattle.hb_layout.specs.declared.meta.Meta.{Meta}
 use Rattle.hb_ops.specs.Owing.{IsOwed, LacksRoom, OwesNothing, Posts, posted_parent}
 use Rattle.hb_ops.specs.declared.operations.Op.TheVariants as ops
-use Rattle.hb_poster.proofs.Facts.ParentWeights.{light_parent}
+use Rattle.hb_poster.proofs.Facts.ParentWeights.{heavy_parent, light_parent}
 use Rattle.hb_poster.specs.Asks.{LooksBelow, TellsNumber}
-use Rattle.hb_poster.specs.Owed.{AreBoth, IsOtherNamed, IsOwedSo, MayLookBelow, OwesTo}
-use Rattle.hb_poster.specs.PosterRows.{DoesPlan, LooksAgain, LooksAtChild, PosterRow, after_look, ends_job}
+use Rattle.hb_poster.specs.Owed.{AreBoth, CanBeSplit, IsOtherNamed, IsOwedSo, MayLookBelow, OwesTo}
+use Rattle.hb_poster.specs.PosterRows.{LooksAgain, LooksAtChild, SplitsParent, ends_job}
 use Rattle.hb_poster.specs.declared.owed.Owed.{Owed}
 use Rattle.hb_space.specs.Boxes.{Area, IsArea, Holds}
 use Rattle.hb_terms.proofs.Facts.Owing.{one_plan, room_told}
@@ -95,7 +99,7 @@ module _ (meta : Meta) (job : Job) (over child : LivePage) (looks : LooksBelow m
   pub lacks_there : meta.icap < posted → LacksRoom over child job.point meta.icap
   lacks_there heavy = record { outer = so.outer; inner = owed.inner; leaf = owed.leaf; area = owed.area; owed = so.is_owed; heavy = heavy }
 
-  never_both : posted ≤ meta.icap → LacksRoom over child job.point meta.icap → ⊥
+  pub never_both : posted ≤ meta.icap → LacksRoom over child job.point meta.icap → ⊥
   never_both room lacks = other (one_plan over child job.point meta.icap (plans.Post (way_to job.point over.frag) owed.inner owed.area) plans.SplitFirst (posts_there room) lacks)
     where
       other : plans.Post (way_to job.point over.frag) owed.inner owed.area ≡ plans.SplitFirst → ⊥
@@ -172,3 +176,70 @@ look_some (Live over) (Live child) meta job parent id next owed may so is free =
     promotes meta job over child may.both.1 owed so parent id free (deed_of (at.PosterChild job parent) next) (moved_is (at.PosterChild job parent) (at.PosterPromote job parent) next is)
 look_some (Live over) (Free other) meta job parent id next owed may so is free = absurd so
 look_some (Free other) child meta job parent id next owed may so is free = absurd so
+
+-- ---- a page that gave a part of its box away
+
+one_more : (own : Leaf) (area : Area) (xs : List Placed) → HasSibling (map leaf_view (map (λ (l : Placed). l.leaf) xs)) ↔ (siblings xs ≢ []) → HasSibling (leaf_view own ∷ map leaf_view (map (λ (l : Placed). l.leaf) xs)) ↔ (siblings (record { leaf = own; area = area } ∷ xs) ≢ [])
+one_more (leaves.Records records) area xs rest = rest
+one_more (leaves.Child page) area xs rest = rest
+one_more (leaves.Sibling page) area xs rest = (λ yes. not_empty (page, area) (siblings xs), λ some. tt)
+
+sibling_views : (xs : List Placed) → HasSibling (map leaf_view (map (λ (l : Placed). l.leaf) xs)) ↔ (siblings xs ≢ [])
+sibling_views [] = (λ none. absurd none, λ some. absurd (some refl))
+sibling_views (x ∷ xs) = one_more x.leaf x.area xs (sibling_views xs)
+
+pub gave_first : (v : Page) (seen : List LeafView) → IsLiveAnd v (λ page. seen ≡ map leaf_view (kept_leaves page.frag)) → IsLiveAnd v (λ own. HasSibling seen ↔ (siblings_of own ≢ []))
+gave_first (Live page) seen is = subst (λ (ls : List LeafView). HasSibling ls ↔ (siblings_of page ≢ [])) (ap (map leaf_view) (leaves_placed page.frag page.area) ∙ sym is) (sibling_views (leaves_of page.frag page.area))
+gave_first (Free next) seen is = absurd is
+
+past_other : (one : LeafView) (rest : List LeafView) → ((page : ℕ) → ¬ (one ≡ views.Sibling page)) → HasSibling (one ∷ rest) ≡ HasSibling rest
+past_other views.Records rest off = refl
+past_other (views.Child page) rest off = refl
+past_other (views.Sibling page) rest off = absurd (off page refl)
+
+pub gave_on : (v : Page) (one : LeafView) (seen rest : List LeafView) → seen ≡ one ∷ rest → ((page : ℕ) → ¬ (one ≡ views.Sibling page)) → IsLiveAnd v (λ own. HasSibling seen ↔ (siblings_of own ≢ [])) → IsLiveAnd v (λ own. HasSibling rest ↔ (siblings_of own ≢ []))
+gave_on (Live page) one seen rest gives off so = subst (λ (P : Type 0). P ↔ (siblings_of page ≢ [])) (ap HasSibling gives ∙ past_other one rest off) so
+gave_on (Free next) one seen rest gives off so = absurd so
+
+pub gave_none : (v : Page) (seen : List LeafView) → seen ≡ [] → IsLiveAnd v (λ own. HasSibling seen ↔ (siblings_of own ≢ [])) → IsLiveAnd v (λ own. IsTrue false ↔ (siblings_of own ≢ []))
+gave_none (Live page) seen none so = (λ yes. let no : ⊥ = cc in absurd no, λ some. absurd (subst HasSibling none (so.1 some)))
+gave_none (Free next) seen none so = absurd so
+
+-- ---- a look again, of views
+
+module _ (meta : Meta) (job : Job) (parent id : ℕ) (next : Next) where
+  pub again_none : (over child : Page) → AreBoth over child (λ above below. OwesTo above below job.point None) → NextIs next at.PosterIdle None [] fates.GoesOn → (free : Option (ℕ × ℕ)) → IsRowBelow (at.PosterAgain job parent) meta parent id over child free next
+  again_none (Live over) (Live child) none is free = nothing_row meta job over child parent id free (deed_of (at.PosterAgain job parent) next) none (moved_is (at.PosterAgain job parent) at.PosterIdle next is)
+  again_none (Live over) (Free other) none is free = absurd none
+  again_none (Free other) child none is free = absurd none
+
+  -- no page is free, and the parent has no room
+  pub again_full : (over child : Page) (owed : Owed) (has : Bool) → MayLookBelow meta job over child → AreBoth over child (λ above below. OwesTo above below job.point (Some owed)) → AreBoth over child (λ above below. TellsNumber (at.PosterAgain job parent) meta below (Some above) None)
+      → AreBoth over child (λ above below. IsTrue has ↔ (¬ (LacksRoom above below job.point meta.icap))) → has ≡ false → NextIs next at.PosterIdle None [] fates.GoesOn → IsRowBelow (at.PosterAgain job parent) meta parent id over child None next
+  again_full (Live over) (Live child) owed has may so number tells none is =
+      let lacks = elim (room_or_none meta job over child may.both.1 owed so) [
+        | inl room ↦ absurd (false≢true (sym none ∙ tells.1 (never_both meta job over child may.both.1 owed so room)))
+        | inr lacks ↦ lacks
+      ] in
+      full_row meta job over child may.both.1 owed so parent id None (deed_of (at.PosterAgain job parent) next) lacks (number.fits lacks) (moved_is (at.PosterAgain job parent) at.PosterIdle next is)
+  again_full (Live over) (Free other) owed has may so number tells none is = absurd so
+  again_full (Free other) child owed has may so number tells none is = absurd so
+
+  -- a number is given: the parent is split
+  pub again_splits : (over child : Page) (number : ℕ × ℕ) → AreBoth over child (λ above below. TellsNumber (at.PosterAgain job parent) meta below (Some above) (Some number))
+      → IsLiveAnd over (λ page. (s : Sight) → s.meta.live < s.meta.pages → s.next ≡ Some number → SplitsParent s job parent page (deed_of (at.PosterAgain job parent) next)) → IsRowBelow (at.PosterAgain job parent) meta parent id over child (Some number) next
+  again_splits (Live over) (Live child) number tells splits =
+      let s = given_sight meta ((parent, over) ∷ (id, child) ∷ []) (Some number) in
+      record { page = over; live = first_given parent over ((id, child) ∷ []); plan = plans.SplitFirst; planned = tells.makes; does_it = inr (splits s (tells.fits tells.makes) refl) }
+  again_splits (Live over) (Free other) number tells splits = absurd tells
+  again_splits (Free other) child number tells splits = absurd tells
+
+-- the parent of which a number tells is heavy enough to be split
+pub again_can_split : (meta : Meta) (job : Job) (parent : ℕ) (over child : Page) (number : ℕ × ℕ) → MayLookBelow meta job over child → AreBoth over child (λ above below. TellsNumber (at.PosterAgain job parent) meta below (Some above) (Some number)) → IsLiveAnd over CanBeSplit
+again_can_split meta job parent (Live over) (Live child) number may tells =
+    let looks = may.both.1 in
+    let light = light_parent meta job over looks.made looks.leads in
+    let most = may.layout.icap_most in
+    record { well_cut = looks.made.well_cut; in_order = looks.made.in_order; full = heavy_parent meta over child job.point may.layout looks.made tells.makes; bounded = omega (arith, light, most) }
+again_can_split meta job parent (Live over) (Free other) number may tells = absurd tells
+again_can_split meta job parent (Free other) child number may tells = absurd tells
