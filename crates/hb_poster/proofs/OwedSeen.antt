@@ -1,5 +1,5 @@
 -- Who is owed a leaf of the parent, told from the leaves that are seen of both pages, and what follows for the row.
-use Rattle.std.proofs.Common.{◌≡◌, ◌≢◌, ◌⊎◌, ◌↔◌, inl, inr, ℕ, ◌+◌, ◌<◌, ◌≤◌, Bool, false, IsTrue, List, [], ◌∷◌, map, Option, Some, None, refl, sym, ap, ◌∙◌, subst, arith}
+use Rattle.std.proofs.Common.{◌≡◌, ◌≢◌, ◌⊎◌, ◌↔◌, inl, inr, ℕ, ◌+◌, ◌<◌, ◌≤◌, Bool, true, false, IsTrue, List, [], ◌∷◌, map, Option, Some, None, refl, sym, ap, ◌∙◌, subst, arith}
 use Rattle.std.proofs.lemmas.Bool.{cases_lt, false≢true}
 use Rattle.std.proofs.lemmas.Option.{same_Some}
 use Rattle.hb_activity.proofs.Facts.GivenPages.{first_given}
@@ -18,6 +18,7 @@ use Rattle.hb_frag.proofs.Facts.Tiles.{leaves_placed}
 use Rattle.hb_lemmas.proofs.Lists.{not_empty}
 use Rattle.hb_activity.specs.Sights.{Sight}
 use Rattle.hb_frag.specs.Paths.{way_to}
+use Rattle.hb_frag.specs.declared.paths.Side.{Side}
 use Rattle.hb_frag.specs.declared.leaves.Leaf.{Leaf}
 use Rattle.hb_frag.specs.declared.leaves.Leaf.TheVariants as leaves
 use Rattle.hb_frag.specs.declared.pages.LivePage.{LivePage}
@@ -217,7 +218,7 @@ module _ (meta : Meta) (job : Job) (parent id : ℕ) (next : Next) where
   pub again_full : (over child : Page) (owed : Owed) (has : Bool) → MayLookBelow meta job over child → AreBoth over child (λ above below. OwesTo above below job.point (Some owed)) → AreBoth over child (λ above below. TellsNumber (at.PosterAgain job parent) meta below (Some above) None)
       → AreBoth over child (λ above below. IsTrue has ↔ (¬ (LacksRoom above below job.point meta.icap))) → has ≡ false → NextIs next at.PosterIdle None [] fates.GoesOn → IsRowBelow (at.PosterAgain job parent) meta parent id over child None next
   again_full (Live over) (Live child) owed has may so number tells none is =
-      let lacks = elim (room_or_none meta job over child may.both.1 owed so) [
+      let lacks : LacksRoom over child job.point meta.icap = elim (room_or_none meta job over child may.both.1 owed so) [
         | inl room ↦ absurd (false≢true (sym none ∙ tells.1 (never_both meta job over child may.both.1 owed so room)))
         | inr lacks ↦ lacks
       ] in
@@ -243,3 +244,22 @@ again_can_split meta job parent (Live over) (Live child) number may tells =
     record { well_cut = looks.made.well_cut; in_order = looks.made.in_order; full = heavy_parent meta over child job.point may.layout looks.made tells.makes; bounded = omega (arith, light, most) }
 again_can_split meta job parent (Live over) (Free other) number may tells = absurd tells
 again_can_split meta job parent (Free other) child number may tells = absurd tells
+
+-- it has room: by the test, or since a page is free and no number is given
+pub has_by_test : (over child : Page) (p : List ℕ) (icap : ℕ) (has : Bool) → AreBoth over child (λ above below. IsTrue has ↔ (¬ (LacksRoom above below p icap))) → has ≡ true → AreBoth over child (λ above below. LacksRoom above below p icap → ⊥)
+has_by_test (Live over) (Live child) p icap has tells is = tells.0 is
+has_by_test (Live over) (Free other) p icap has tells is = absurd tells
+has_by_test (Free other) child p icap has tells is = absurd tells
+
+pub has_by_free : (over child : Page) (meta : Meta) (job : Job) (parent : ℕ) → AreBoth over child (λ above below. TellsNumber (at.PosterAgain job parent) meta below (Some above) None) → meta.live < meta.pages → AreBoth over child (λ above below. LacksRoom above below job.point meta.icap → ⊥)
+has_by_free (Live over) (Live child) meta job parent number free = has_room_untold meta job parent over child number free
+has_by_free (Live over) (Free other) meta job parent number free = absurd number
+has_by_free (Free other) child meta job parent number free = absurd number
+
+pub again_posts : (meta : Meta) (job : Job) (parent id : ℕ) (next : Next) (over child : Page) (owed : Owed) (way : List Side) → MayLookBelow meta job over child → AreBoth over child (λ above below. OwesTo above below job.point (Some owed)) → AreBoth over child (λ above below. LacksRoom above below job.point meta.icap → ⊥)
+    → IsLiveAnd over (λ page. way ≡ way_to job.point page.frag) → NextIs next at.PosterIdle (Some (ops.Post parent way owed.inner owed.area)) (job ∷ []) fates.GoesOn → (free : Option (ℕ × ℕ)) → IsRowBelow (at.PosterAgain job parent) meta parent id over child free next
+again_posts meta job parent id next (Live over) (Live child) owed way may so has leads is free =
+    let done : deed_of (at.PosterAgain job parent) next ≡ does at.PosterIdle (ops.Post parent way owed.inner owed.area) (job ∷ []) = λ i. deed_of (at.PosterAgain job parent) (record { then = is.stands i; op = is.op i; jobs = record { items = is.jobs i }; fate = is.fate i }) in
+    posts_row meta job over child may.both.1 owed so parent id free (deed_of (at.PosterAgain job parent) next) has (done ∙ ap (λ (w : List Side). does at.PosterIdle (ops.Post parent w owed.inner owed.area) (job ∷ [])) leads)
+again_posts meta job parent id next (Live over) (Free other) owed way may so has leads is free = absurd so
+again_posts meta job parent id next (Free other) child owed way may so has leads is free = absurd so
