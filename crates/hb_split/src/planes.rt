@@ -65,7 +65,6 @@ fn better(
 }
 
 /// The one that the rule takes. A plane of a later attribute has to be better to be taken.
-#[tactic(auto, using(crate::proofs::Better::best_stays, crate::proofs::Better::other_wins))]
 fn first_of(
     rule: CutRule,
     records: &[Record],
