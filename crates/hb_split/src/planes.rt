@@ -76,11 +76,7 @@ fn first_of(
     requires other { IsBestOn rule axis records.now other }
     ensures { BestOf rule (axis + 1) records.now (Some result) }
 {
-    if overtakes(other, best) {
-        other
-    } else {
-        best
-    }
+    if overtakes(other, best) { other } else { best }
 }
 
 /// Whether a plane of a later attribute is better: its heavier side has fewer records, or as many
@@ -88,8 +84,7 @@ fn first_of(
 fn overtakes(other: Candidate, best: Candidate) -> bool
     ensures { IsTrue result ↔ Overtakes other best }
 {
-    other.count < best.count
-        || other.count == best.count && best.preference < other.preference
+    other.count < best.count || other.count == best.count && best.preference < other.preference
 }
 
 /// The best plane of the attribute. None where all records have the same value.
