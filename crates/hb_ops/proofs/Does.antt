@@ -12,7 +12,7 @@ use Rattle.hb_ops.specs.declared.changes.ChangeError.{ChangeError}
 use Rattle.hb_ops.specs.declared.changes.ChangeError.TheVariants.{Unfit, NoMemory}
 use Rattle.hb_ops.specs.declared.operations.Op.{Op}
 use Rattle.hb_ops.specs.Given.{given}
-use Rattle.hb_ops.specs.Operations.{Change, IsAllowedOn, change_of}
+use Rattle.hb_ops.specs.Operations.{FileChange, IsAllowedOn, change_of}
 
 -- the clauses of a change
 pub record Does (result : Result Changed ChangeError) (op : Op) (meta : Meta) (first second third : Option LivePage) : Type 0 where
@@ -38,7 +38,7 @@ failed {T} result error op meta first second third e h k =
     other : (x : ChangeError) → IsErrOf {T = Changed} {E = ChangeError} (Err error) x → IsErrOf {T = T} {E = ChangeError} (Err error) x
     other x w = let same : error ≡ x = cc in ap (λ (y : ChangeError). Err y) same
 
-change_is : (m m' : Meta) (ps qs : List (ℕ × Page)) (w : Change) → m ≡ m' → ps ≡ qs → record { meta = m'; pages = qs } ≡ w → record { meta = m; pages = ps } ≡ w
+change_is : (m m' : Meta) (ps qs : List (ℕ × Page)) (w : FileChange) → m ≡ m' → ps ≡ qs → record { meta = m'; pages = qs } ≡ w → record { meta = m; pages = ps } ≡ w
 change_is m m' ps qs w e f h = (λ i. record { meta = e i; pages = f i }) ∙ h
 
 -- where one page changes

@@ -3,7 +3,7 @@ use Rattle.std.specs.Prelude.{◌≡◌, ℕ, List, length, map, filter, All, Op
 use Rattle.std.specs.FinMap as map
 use Rattle.hb_space.specs.Points.{point_cmp}
 use Rattle.hb_space.specs.Boxes.{holds}
-use Rattle.hb_space.specs.Edits.{Edit, adding, changing, taking_away}
+use Rattle.hb_space.specs.Edits.{Edit, adding, changing, taking_away, with_body_at}
 use Rattle.hb_space.specs.declared.records.Record.{Record}
 use Rattle.hb_set.specs.declared.commands.Command.{Command}
 use Rattle.hb_set.specs.declared.commands.Command.TheVariants.{Insert, Delete, Change, Lookup, Search}
@@ -79,10 +79,6 @@ edit_asked (Change r) = Some (changing r)
 edit_asked (Lookup p) = None
 edit_asked (Search a) = None
 
--- a set with this body at a point, or with none
-abbrev pub with_body_at : List ℕ → Option (List ℕ) → RecordSet → RecordSet
-with_body_at point (Some body) m = map.insert m point body
-with_body_at point None m = map.remove m point
-
+-- a set with the body of an edit at its point, or with none
 abbrev pub edited : Edit → RecordSet → RecordSet
 edited e m = with_body_at e.point e.body m

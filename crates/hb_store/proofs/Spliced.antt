@@ -15,7 +15,7 @@ use Rattle.hb_page_codec.proofs.Facts.PageLaws.{page_takes}
 use Rattle.hb_ops.specs.declared.operations.Op.{Op}
 use Rattle.hb_ops.specs.declared.operations.Op.TheVariants.{Del, Put}
 use Rattle.hb_ops.specs.Files.{if_live}
-use Rattle.hb_ops.specs.Operations.{Change, IsAllowedOn, change_of, reads_of}
+use Rattle.hb_ops.specs.Operations.{FileChange, IsAllowedOn, change_of, reads_of}
 use Rattle.hb_ops.specs.SetPages.{has_page}
 use Rattle.hb_pool.specs.Editing.{AreWhole}
 use Rattle.hb_pool.specs.Frames.{Frame, filled}
@@ -77,7 +77,7 @@ pub record MakesSpliced (st : StoreState) (page : ℕ) (point : List ℕ) (body 
   pub live : LivePage
   pub there : in_memory st page ≡ Some (Live live)
   pub ordered : IsOrderedAt point live
-  pub change : ◌≡◌ {A = Change} (change_here st (record_op page point body)) (record { meta = st.meta; pages = (page, Live (spliced point body live)) ∷ [] })
+  pub change : ◌≡◌ {A = FileChange} (change_here st (record_op page point body)) (record { meta = st.meta; pages = (page, Live (spliced point body live)) ∷ [] })
 
 put_spliced : PutsAreSplices → (st : StoreState) (page : ℕ) (rec : Record) (o : Option Page) → in_memory st page ≡ o → IsAllowedOn (Put page rec) st.meta (if_live o) (read_here st (Put page rec) 1) (read_here st (Put page rec) 2) → MakesSpliced st page rec.key (Some rec.body)
 put_spliced puts st page rec None is fits = absurd fits
@@ -107,7 +107,7 @@ module _ (puts : PutsAreSplices) (deletes : DeletesAreSplices) (st : StoreState)
   abbrev pub made : MakesSpliced st page point body
   made = makes_spliced puts deletes st page point body (subst (IsAllowedHere st) is allowed)
 
-  pub change_is : ◌≡◌ {A = Change} (change_here st op) (record { meta = st.meta; pages = (page, Live (spliced point body made.live)) ∷ [] })
+  pub change_is : ◌≡◌ {A = FileChange} (change_here st op) (record { meta = st.meta; pages = (page, Live (spliced point body made.live)) ∷ [] })
   change_is = ap (change_here st) is ∙ made.change
 
   -- where each page that it makes can be written, its page can be spliced
@@ -115,7 +115,7 @@ module _ (puts : PutsAreSplices) (deletes : DeletesAreSplices) (st : StoreState)
   can_splice frame seen spelled =
       let P = λ (c : ℕ × Page). HasSpelling c.1 in
       let one : ℕ × Page = (page, Live (spliced point body made.live)) in
-      let alone : All P (one ∷ []) = subst (λ (c : Change). All P c.pages) change_is spelled in
+      let alone : All P (one ∷ []) = subst (λ (c : FileChange). All P c.pages) change_is spelled in
       subst (λ (o : Option Page). HasSpliceable o point body) (sym (seen ∙ made.there)) (made.ordered, All-head P one [] alone)
 
 -- it reads that page alone

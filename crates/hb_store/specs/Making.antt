@@ -7,7 +7,7 @@ use Rattle.hb_frag.specs.Grammar.{HasSpelling}
 use Rattle.hb_layout.specs.declared.meta.Meta.{Meta}
 use Rattle.hb_ops.specs.declared.operations.Op.{Op}
 use Rattle.hb_ops.specs.declared.operations.Op.TheVariants.{Del, Extract, Post, Put}
-use Rattle.hb_ops.specs.Operations.{BoxesMatch, Change, IsAllowedOn, OpHas, change_of, reads_of}
+use Rattle.hb_ops.specs.Operations.{BoxesMatch, FileChange, IsAllowedOn, OpHas, change_of, reads_of}
 use Rattle.hb_log_codec.specs.Groups.{FitsGroup, FitsLeafCut, FitsOp, Logged}
 use Rattle.hb_view.specs.Spelled.{page_spelled}
 use Rattle.hb_store.specs.States.{AreGood, IsGoodPage, IsMemory, StoreState, in_memory, is_in_log}
@@ -61,7 +61,7 @@ HaveFittingParts = (op : Op) (meta : Meta) (first second third : Option LivePage
 
 -- What a change makes: what the file says of itself comes after what it said, good pages stay good, and each changed page
 -- is one of the file then, and is good.
-pub record IsGoodChange (meta : Meta) (change : Change) : Type 0 where
+pub record IsGoodChange (meta : Meta) (change : FileChange) : Type 0 where
   -- the layout stays, what the file says of itself is within its limits, and the highest page does not fall
   pub after : ComesAfter meta change.meta
   -- it rises by one at most

@@ -5,7 +5,7 @@ use Rattle.std.specs.FinSet as set
 use Rattle.hb_frag.specs.declared.pages.Page.{Page}
 use Rattle.hb_frag.specs.declared.pages.Page.TheVariants.{Live}
 use Rattle.hb_ops.specs.declared.operations.Op.{Op}
-use Rattle.hb_ops.specs.Operations.{Change, reads_of}
+use Rattle.hb_ops.specs.Operations.{FileChange, reads_of}
 use Rattle.hb_ops.specs.SetPages.{has_page}
 use Rattle.hb_view.specs.Splicing.{spliced}
 use Rattle.hb_wal.specs.Log.{LogState, MayJoin, with_group}
@@ -75,7 +75,7 @@ module _ (c : goal.After-splice_page) where
   abbrev made_page : Page
   made_page = Live (spliced c.args.point.now body made_here.live)
 
-  abbrev change_made : Change
+  abbrev change_made : FileChange
   change_made = record { meta = held.state.meta; pages = (c.args.page, made_page) ∷ [] }
 
   effect : change_made ≡ change_here held.state op
@@ -119,7 +119,7 @@ returns c =
       commits = commits c;
       group = ap (λ (l : LogState). l.groups) (log_here c);
       uses =
-          (puts_here c).uses ∙ ap (λ (l : Change). use_changed (numbers_of l.pages) (map use_of m.pool)) (effect c)
+          (puts_here c).uses ∙ ap (λ (l : FileChange). use_changed (numbers_of l.pages) (map use_of m.pool)) (effect c)
           ∙ ap (λ (h : StoreHeld). use_changed (numbers_changed held.state c.args.op.now) h.uses) c.self.view_is;
       stays = stays_then m.turn m.meta m.log m.in_log m.stopped m.pool m.meta c.append_record.new.log c.add.new.self c.splice_page.new.pool held c.self.view_is c.args.op.now c.args.mark (change_made c) (group_bytes (group_here held.state c.args.op.now))
           (effect c) (ap (λ (h : StoreHeld). h.state.meta) c.self.view_is) (puts_here c) c.self.invariant.pool (numbers_here c) (log_here c);
