@@ -84,7 +84,7 @@ pub(crate) fn edit(
 }
 
 // The records of the leaf at the point, and the place of the point among them. `None` where the edit doesn't fit.
-fn spot_for<'a>(
+pub(crate) fn spot_for<'a>(
     page: &'a LivePage,
     meta: &Meta,
     editing: Editing<'_>,
@@ -97,7 +97,7 @@ fn spot_for<'a>(
         None => None,
         Some(records) => match place_of(records.as_slice(), editing.point) {
             Ok(place) if editing.there => Some((records, place)),
-            Err(gap) if !editing.there && has_room(page, meta, records, editing.body) => {
+            Err(gap) if !editing.there && has_room(page, meta, records, editing.body.is_some()) => {
                 Some((records, gap))
             }
             _ => None,
@@ -140,13 +140,12 @@ pub(crate) fn place_of(records: &[Record], point: &Point) -> Result<usize, usize
     records.binary_search_by(|record| record.key.cmp(point))
 }
 
-// Whether the page has room for this body once more in a leaf of these records, or for none: a leaf without a record weighs
-// 1 already.
-fn has_room(page: &LivePage, meta: &Meta, records: &Records, body: Option<&Body>) -> bool
+// Whether the page has room, where a leaf of these records gets one more, or none: a leaf without a record weighs 1 already.
+fn has_room(page: &LivePage, meta: &Meta, records: &Records, adds: bool) -> bool
     requires { weight_of page.now.frag < 2 ^ 16 }
-    ensures { IsTrue result ↔ (weight_of page.now.frag + (if length records.now == 0 then 0 else length (record_with [] (option_copied body.entry))) ≤ meta.now.dcap) }
+    ensures { IsTrue result ↔ (weight_of page.now.frag + (if length records.now == 0 then 0 else (if adds then 1 else 0)) ≤ meta.now.dcap) }
 {
-    let more = u32::from(body.is_some() && !records.as_slice().is_empty());
+    let more = u32::from(adds && !records.as_slice().is_empty());
     page.weight() + more <= u32::from(meta.dcap)
 }
 

@@ -1,0 +1,17 @@
+use Rattle.std.proofs.Common.{◌≡◌, IfOk, sym, subst, ◌∙◌}
+use Rattle.hb_frag.specs.declared.pages.LivePage.{LivePage}
+use Rattle.hb_ops.specs.Given.{edit_seen}
+use Rattle.hb_ops.specs.Recording.{with_body}
+use Rattle.hb_ops.proofs.Facts.Opened.{page_made, rising_at}
+use Rattle.hb_ops.proofs.Facts.Places.{edited_at}
+use Rattle.hb_ops.proofs.edits.with_edit.Goals as goal
+
+pub returns : goal.returns
+returns c =
+    let e = edit_seen c.args.editing in
+    let opened = c.requires.opened in
+    let records = c.args.records.now in
+    let rise = rising_at c.args.page.now e.point records opened.area opened.made.in_order opened.leaf in
+    let is = rw c.as_slice.ensures at c.in_ok-edited.ensures in
+    let same = page_made c.args.meta.now c.args.page.now e.point records c.in_ok-edited.edited (with_body e.point e.body) opened (is ∙ sym (edited_at e.there records e.point e.body c.args.place rise c.requires.stands)) in
+    subst (λ (page : LivePage). IfOk c.with_records.result (λ made. made ≡ page)) same c.with_records.ensures
