@@ -1,16 +1,30 @@
-use Rattle.std.proofs.Common.{◌≡◌, ap, sym, ◌∙◌}
-use Rattle.hb_set.proofs.Views.{change_done, change_absent}
-use Rattle.hb_set.proofs.set.Set.change.Goals as goal
+use Rattle.std.proofs.Common.{◌≡◌, ap, sym, subst, ◌∙◌}
+use Rattle.hb_space.specs.declared.records.Record.{Record}
+use Rattle.hb_lemmas.specs.Places.{IsPlaceOf}
 use Rattle.hb_lemmas.proofs.SortedEntries.{rise_set}
 use Rattle.std.proofs.lemmas.Cmp.{nat_list_cmp_total}
 use Rattle.hb_set.specs.Kept.{point_behind, body_behind}
+use Rattle.hb_set.proofs.Views.{change_absent, change_done}
+use Rattle.hb_set.proofs.set.Set.change.Goals as goal
 
--- names of the goals as those of `Pool::unpin`, not seen by a prover
+-- the handle is the one at the point's place, so it is of that point
+in_place : (c : goal.In-Ok) → IsPlaceOf point_behind c.self.inside.records.items c.args.changed.now.key c.in-Ok.place
+in_place c = rw c.deref.ensures.value at c.in-Ok.ensures.found
+
+same_point : (c : goal.After-self-1) → c.deref_mut.result.now.key ≡ c.args.changed.now.key
+same_point c =
+    let at = rw c.deref.ensures.value at c.in-Ok.ensures.found in
+    ap (λ (r : Record). r.key) (c.deref_mut.ensures.value ∙ ap (λ h. h.value) c.index_mut-handle.ensures.value) ∙ at.same_key c.index_mut-handle.result.now
+
 pub invariant_of-self : goal.invariant_of-self
-invariant_of-self c = search rules
+invariant_of-self c =
+    let at = rw c.deref.ensures.value at c.in-Ok.ensures.found in
+    rise_set nat_list_cmp_total point_behind body_behind c.self.inside.records.items _ c.in-Ok.place c.self.invariant (rw (same_point c) at)
 
 pub returns-in-Ok-clause-answers : goal.returns-in-Ok-clause-answers
-returns-in-Ok-clause-answers c = rw (← c.self.view_is) (change_done _ c.args.changed.now _ _ c.self.invariant (rw c.deref.ensures.value at c.in-Ok.ensures.found) (search rules) (search rules))
+returns-in-Ok-clause-answers c =
+    let at = rw c.deref.ensures.value at c.in-Ok.ensures.found in
+    rw (← c.self.view_is) (change_done c.self.inside.records.items c.args.changed.now _ c.in-Ok.place c.self.invariant at (same_point c) (ap (λ b. b) c.copy.ensures))
 
 pub returns-in-Err-clause-answers : goal.returns-in-Err-clause-answers
-returns-in-Err-clause-answers c = rw (← c.self.view_is) (change_absent _ _ _ c.self.invariant (rw c.deref.ensures.value at c.in-Err.ensures.absent))
+returns-in-Err-clause-answers c = rw (← c.self.view_is) (change_absent _ c.args.changed.now _ c.self.invariant (rw c.deref.ensures.value at c.in-Err.ensures.absent))
