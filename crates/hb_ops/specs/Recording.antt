@@ -1,5 +1,5 @@
 -- One record of a page is edited: it joins, goes, or gets another body. And what an edit finds in the page.
-use Rattle.std.specs.Prelude.{◌≡◌, ◌≢◌, ℕ, ◌≤◌, Bool, true, false, List, ◌∷◌, ◌++◌, filter, All, Any, Option, Some, None, IsSome}
+use Rattle.std.specs.Prelude.{◌≡◌, ◌≢◌, ℕ, ◌≤◌, Bool, true, false, List, ◌∷◌, ◌++◌, filter, All, Any, Option, Some, None}
 use Rattle.std.specs.Ordering.{is_lt, is_gt, is_ne}
 use Rattle.hb_space.specs.Points.{point_cmp}
 use Rattle.hb_space.specs.Boxes.{Area, Holds}
@@ -88,4 +88,4 @@ pub record HasSpot (meta : Meta) (page : LivePage) (e : Edit) (records : List Re
 -- An edit of a record that is there leaves the page as heavy as it was where a record stays there, and else no heavier.
 abbrev pub EditsAddNoWeight : Type 0
 EditsAddNoWeight = (meta : Meta) (page : LivePage) (e : Edit) → FitsEdit meta page e → e.there ≡ true →
-    (weight_of (edited_page e page).frag ≤ weight_of page.frag) × (IsSome e.body → weight_of (edited_page e page).frag ≡ weight_of page.frag)
+    (weight_of (edited_page e page).frag ≤ weight_of page.frag) × ((body : List ℕ) → e.body ≡ Some body → weight_of (edited_page e page).frag ≡ weight_of page.frag)

@@ -104,10 +104,10 @@ fn edited(
     first: Option<&LivePage>,
     editing: Editing<'_>,
 ) -> Result<Changed, ChangeError>
-    ensures allowed { IfOk result (λ c. FitsGiven meta.now (given first.entry) (edit_seen editing)) }
-    ensures effect { IfOk result (λ c. MakesEdited meta.now id (given first.entry) (edit_seen editing) (record { meta = c.meta; pages = c.pages.items })) }
-    ensures unfit { IsErrOf result Unfit → ¬ (FitsGiven meta.now (given first.entry) (edit_seen editing)) }
-    ensures memory { IsErrOf result Starved → FitsGiven meta.now (given first.entry) (edit_seen editing) }
+    ensures allowed { IfOk result (λ c. FitsGiven meta.now (given first.entry) (edit_seen editing.entry)) }
+    ensures effect { IfOk result (λ c. MakesEdited meta.now id (given first.entry) (edit_seen editing.entry) (record { meta = c.meta; pages = c.pages.items })) }
+    ensures unfit { IsErrOf result Unfit → ¬ (FitsGiven meta.now (given first.entry) (edit_seen editing.entry)) }
+    ensures memory { IsErrOf result Starved → FitsGiven meta.now (given first.entry) (edit_seen editing.entry) }
 {
     match first {
         None => Err(ChangeError::Unfit),

@@ -69,10 +69,10 @@ pub(crate) fn edit(
     meta: &Meta,
     editing: Editing<'_>,
 ) -> Result<LivePage, ChangeError>
-    ensures allowed { IfOk result (λ made. FitsEdit meta.now page.now (edit_seen editing)) }
-    ensures effect { IfOk result (λ made. made ≡ edited_page (edit_seen editing) page.now) }
-    ensures unfit { IsErrOf result Unfit → ¬ (FitsEdit meta.now page.now (edit_seen editing)) }
-    ensures memory { IsErrOf result Starved → FitsEdit meta.now page.now (edit_seen editing) }
+    ensures allowed { IfOk result (λ made. FitsEdit meta.now page.now (edit_seen editing.entry)) }
+    ensures effect { IfOk result (λ made. made ≡ edited_page (edit_seen editing.entry) page.now) }
+    ensures unfit { IsErrOf result Unfit → ¬ (FitsEdit meta.now page.now (edit_seen editing.entry)) }
+    ensures memory { IsErrOf result Starved → FitsEdit meta.now page.now (edit_seen editing.entry) }
 {
     match spot_for(page, meta, editing) {
         None => Err(ChangeError::Unfit),
@@ -90,8 +90,8 @@ pub(crate) fn spot_for<'a>(
     editing: Editing<'_>,
 ) -> Option<(&'a Records, usize)>
     ensures { MatchOption result
-        (¬ (FitsEdit meta.now page.now (edit_seen editing)))
-        (λ spot. HasSpot meta.now page.now (edit_seen editing) spot.0.now spot.1) }
+        (¬ (FitsEdit meta.now page.now (edit_seen editing.entry)))
+        (λ spot. HasSpot meta.now page.now (edit_seen editing.entry) spot.0.now spot.1) }
 {
     match open_at(page, meta, editing.point) {
         None => None,
@@ -159,7 +159,7 @@ fn with_edit(
     place: usize,
 ) -> Result<LivePage, NoMemory>
     requires { HasSpot meta.now page.now (edit_seen editing) records.now place }
-    ensures { IfOk result (λ made. made ≡ edited_page (edit_seen editing) page.now) }
+    ensures { IfOk result (λ made. made ≡ edited_page (edit_seen editing.entry) page.now) }
 {
     let behind = place + usize::from(editing.there);
     let (before, after) = (&records.as_slice()[..place], &records.as_slice()[behind..]);

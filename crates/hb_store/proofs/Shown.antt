@@ -6,7 +6,7 @@ use Rattle.hb_frag.specs.declared.pages.LivePage.{LivePage}
 use Rattle.hb_frag.specs.declared.pages.Page.{Page}
 use Rattle.hb_layout.specs.declared.meta.Meta.{Meta}
 use Rattle.hb_ops.specs.declared.operations.Op.{Op}
-use Rattle.hb_ops.specs.declared.operations.Op.TheVariants.{Put, Del, Extract, Post, Merge, Grow}
+use Rattle.hb_ops.specs.declared.operations.Op.TheVariants.{Put, Del, Change, Extract, Post, Merge, Grow}
 use Rattle.hb_ops.specs.Files.{FileState, if_live, page_of, last_of}
 use Rattle.hb_ops.specs.Operations.{FileChange, IsAllowed, change_of, effect_of, nth_read, reads_of}
 use Rattle.hb_log_codec.specs.Groups.{Logged}
@@ -110,6 +110,7 @@ module _ (bytes : List ℕ) (said : Meta) where
   shows_op : (t : Replayed) (s : FileState) (op : Op) → Shows bytes said t s → IsAllowedIn t op → IsAllowed s op → Shows bytes said (after_op t op) (effect_of s op)
   shows_op t s (Put id rec) shows may allowed = let op = Put id rec in shows_change t s op shows may allowed (by_first t s op shows may allowed refl)
   shows_op t s (Del id point) shows may allowed = let op = Del id point in shows_change t s op shows may allowed (by_first t s op shows may allowed refl)
+  shows_op t s (Change id rec) shows may allowed = let op = Change id rec in shows_change t s op shows may allowed (by_first t s op shows may allowed refl)
   shows_op t s (Extract source fresh path cuts free_after) shows may allowed =
       let op = Extract source fresh path cuts free_after in shows_change t s op shows may allowed (by_first t s op shows may allowed refl)
   shows_op t s (Post parent at inner area) shows may allowed = let op = Post parent at inner area in shows_change t s op shows may allowed (by_first t s op shows may allowed refl)

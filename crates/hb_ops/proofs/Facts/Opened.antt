@@ -1,5 +1,5 @@
 -- A page whose leaf at a point has records: its weight and its tree once they are changed.
-use Rattle.std.proofs.Common.{◌≡◌, ◌≢◌, ℕ, ◌+◌, ◌<◌, ◌≤◌, ◌==◌, max, Bool, true, false, cond, List, [], ◌∷◌, ◌++◌, length, get_or, map, sum, take, drop, All, AllPairs, Any, Option, Some, None, IsSome, not, sym, ap, subst, ◌∙◌, arith, inl, inr, eq-eqb, ne_eqb, nat_lt}
+use Rattle.std.proofs.Common.{◌≡◌, ◌≢◌, ℕ, ◌+◌, ◌<◌, ◌≤◌, ◌==◌, max, Bool, true, false, cond, List, [], ◌∷◌, ◌++◌, length, get_or, map, sum, take, drop, All, AllPairs, Any, Option, Some, None, not, sym, ap, subst, ◌∙◌, arith, inl, inr, eq-eqb, ne_eqb, nat_lt}
 use Rattle.std.specs.Option.{is_some}
 use Rattle.std.proofs.lemmas.List.{get_or_default, map-append, length-append, length-take, length-drop}
 use Rattle.hb_space.specs.Edits.{Edit, record_with}
@@ -157,9 +157,9 @@ edits_add_no_weight meta page e fits there =
     by e.body changed.0 (omega (arith, changed.2, one)) changed.1 (omega (arith, inside))
   where
     by : (body : Option (List ℕ)) (n : ℕ) → n + 1 ≡ length fits.found.records + length (record_with e.point body) → weight_of (edited_page e page).frag + max 1 (length fits.found.records) ≡ weight_of page.frag + max 1 n → 0 < length fits.found.records →
-        (weight_of (edited_page e page).frag ≤ weight_of page.frag) × (IsSome body → weight_of (edited_page e page).frag ≡ weight_of page.frag)
-    by None n counted weighs some = (omega arith, (λ no. absurd no))
-    by (Some body) n counted weighs some = (omega arith, (λ is. omega arith))
+        (weight_of (edited_page e page).frag ≤ weight_of page.frag) × ((b : List ℕ) → body ≡ Some b → weight_of (edited_page e page).frag ≡ weight_of page.frag)
+    by None n counted weighs some = (omega arith, (λ b is. cc))
+    by (Some body) n counted weighs some = (omega arith, (λ b is. omega arith))
 
 -- what a page weighs that is open
 pub weighs_little : (meta : Meta) (page : LivePage) (point : List ℕ) (records : List Record) → IsOpenAt meta page point records → weight_of page.frag ≤ meta.dcap

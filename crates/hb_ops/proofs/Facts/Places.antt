@@ -5,7 +5,7 @@ use Rattle.std.specs.declared.cmp.Ordering.{Ordering}
 use Rattle.std.specs.declared.cmp.Ordering.TheVariants.{Less, Equal, Greater}
 use Rattle.std.proofs.lemmas.Bool.{cases_lt}
 use Rattle.std.proofs.lemmas.Cmp.{nat_list_cmp_total, tied_itself}
-use Rattle.std.proofs.lemmas.List.{get_or_default, take_drop}
+use Rattle.std.proofs.lemmas.List.{get_or_default, take-append-drop}
 use Rattle.hb_space.specs.Points.{point_cmp}
 use Rattle.hb_space.specs.declared.records.Record.{Record}
 use Rattle.hb_frag.specs.Rules.{Precedes, point_of}
@@ -148,7 +148,7 @@ without_gap records p i gap =
       | inl before ↦ ap is_ne (gap.lesser_before k d (omega arith) before)
       | inr after ↦ ap is_ne (gap.greater_after k d after lt)
     ])
-    ∙ sym (take_drop i records)
+    ∙ sym (take-append-drop i records)
 
 -- So with another body at a point, or none, the records in front of it and behind it stay.
 pub edited_at : (there : Bool) (records : List Record) (p : List ℕ) (body : Option (List ℕ)) (i : ℕ) → AllPairs Precedes records → StandsAt there p records i → with_body p body records ≡ take i records ++ (record_with p body ++ drop (i + cond there 1 0) records)

@@ -1,6 +1,5 @@
-use Rattle.std.proofs.Common.{◌≡◌, ap, sym, subst, ◌∙◌}
+use Rattle.std.proofs.Common.{◌≡◌, ℕ, List, ap, sym, subst, ◌∙◌}
 use Rattle.hb_space.specs.declared.records.Record.{Record}
-use Rattle.hb_lemmas.specs.Places.{IsPlaceOf}
 use Rattle.hb_lemmas.proofs.SortedEntries.{rise_set}
 use Rattle.std.proofs.lemmas.Cmp.{nat_list_cmp_total}
 use Rattle.hb_set.specs.Kept.{point_behind, body_behind}
@@ -8,9 +7,6 @@ use Rattle.hb_set.proofs.Views.{change_absent, change_done}
 use Rattle.hb_set.proofs.set.Set.change.Goals as goal
 
 -- the handle is the one at the point's place, so it is of that point
-in_place : (c : goal.In-Ok) → IsPlaceOf point_behind c.self.inside.records.items c.args.changed.now.key c.in-Ok.place
-in_place c = rw c.deref.ensures.value at c.in-Ok.ensures.found
-
 same_point : (c : goal.After-self-1) → c.deref_mut.result.now.key ≡ c.args.changed.now.key
 same_point c =
     let at = rw c.deref.ensures.value at c.in-Ok.ensures.found in
@@ -24,7 +20,7 @@ invariant_of-self c =
 pub returns-in-Ok-clause-answers : goal.returns-in-Ok-clause-answers
 returns-in-Ok-clause-answers c =
     let at = rw c.deref.ensures.value at c.in-Ok.ensures.found in
-    rw (← c.self.view_is) (change_done c.self.inside.records.items c.args.changed.now _ c.in-Ok.place c.self.invariant at (same_point c) (ap (λ b. b) c.copy.ensures))
+    rw (← c.self.view_is) (change_done c.self.inside.records.items c.args.changed.now _ c.in-Ok.place c.self.invariant at (same_point c) (ap (λ (b : List ℕ). b) c.copy.ensures))
 
 pub returns-in-Err-clause-answers : goal.returns-in-Err-clause-answers
 returns-in-Err-clause-answers c = rw (← c.self.view_is) (change_absent _ c.args.changed.now _ c.self.invariant (rw c.deref.ensures.value at c.in-Err.ensures.absent))
