@@ -1,6 +1,6 @@
 //! A page with one record edited: added, taken away, or given another body.
 
-ghost use Rattle.std.specs.Prelude.{◌≡◌, ◌↔◌, ◌+◌, ◌<◌, ◌≤◌, ◌^◌, ◌==◌, ◌++◌, [], if◌then◌else◌, List, length, option_copied, AllPairs, IfOk, IfErr, IsErrOf, IsTrue, MatchOption, OnOk};
+ghost use Rattle.std.specs.Prelude.{◌≡◌, ◌↔◌, ◌+◌, ◌<◌, ◌≤◌, ◌^◌, ◌==◌, ◌++◌, [], if◌then◌else◌, List, length, option_copied, take, drop, Some, AllPairs, IfOk, IfErr, IsErrOf, IsTrue, MatchOption, OnOk};
 ghost use Rattle.hb_space.specs.Boxes.{Holds};
 ghost use Rattle.hb_space.specs.Points.{point_cmp};
 ghost use Rattle.hb_space.specs.declared.records.Record.{Record as Entry};
@@ -142,11 +142,12 @@ pub(crate) fn place_of(records: &[Record], point: &Point) -> Result<usize, usize
 
 // Whether the page has room, where a leaf of these records gets one more, or none: a leaf without a record weighs 1 already.
 fn has_room(page: &LivePage, meta: &Meta, records: &Records, adds: bool) -> bool
-    requires { weight_of page.now.frag < 2 ^ 16 }
+    requires { weight_of page.now.frag ≤ meta.now.dcap }
     ensures { IsTrue result ↔ (weight_of page.now.frag + (if length records.now == 0 then 0 else (if adds then 1 else 0)) ≤ meta.now.dcap) }
 {
+    let capacity = u32::from(meta.dcap);
     let more = u32::from(adds && !records.as_slice().is_empty());
-    page.weight() + more <= u32::from(meta.dcap)
+    page.weight() + more <= capacity
 }
 
 // The page with the edit at the place.
@@ -161,9 +162,9 @@ fn with_edit(
     requires { HasSpot meta.now page.now (edit_seen editing) records.now place }
     ensures { IfOk result (λ made. made ≡ edited_page (edit_seen editing.entry) page.now) }
 {
+    let records = records.as_slice();
     let behind = place + usize::from(editing.there);
-    let (before, after) = (&records.as_slice()[..place], &records.as_slice()[behind..]);
-    let edited = records_between(alloc, before, editing.point, editing.body, after)?;
+    let edited = records_with(alloc, records, place, behind, editing.point, editing.body)?;
     with_records(alloc, page, editing.point, edited)
 }
 
@@ -193,25 +194,35 @@ fn with_records(
     })
 }
 
-// The records of both lists, and between them the point's with this body, or none.
-fn records_between(
+// The records in front of the one place and from the other on, and between them the point's with this body, or none.
+fn records_with(
     alloc: Global,
-    before: &[Record],
+    records: &[Record],
+    place: usize,
+    behind: usize,
     point: &Point,
     body: Option<&Body>,
-    after: &[Record],
 ) -> Result<Records, NoMemory>
-    ensures { IfOk result (λ made. made ≡ before.now ++ (record_with point.now (option_copied body.entry) ++ after.now)) }
+    requires place { place ≤ length records.now }
+    requires behind { behind ≤ length records.now }
+    ensures { IfOk result (λ made. made ≡ take place records.now ++ (record_with point.now (option_copied body.entry) ++ drop behind records.now)) }
 {
     let mut made = Vec::new(alloc);
-    push_copies(&mut made, before)?;
+    push_copies(&mut made, &records[..place])?;
     if let Some(body) = body {
-        let key = point.copy();
-        let body = body.copy();
-        made.push(Record { key, body })?;
+        push_record(&mut made, point, body)?;
     }
-    push_copies(&mut made, after)?;
+    push_copies(&mut made, &records[behind..])?;
     Ok(Records::new(made))
+}
+
+// Adds the record of the point with this body at the end.
+fn push_record(made: &mut Vec<Record>, point: &Point, body: &Body) -> Result<(), NoMemory>
+    ensures { OnOk result (made.new.items ≡ made.old.items ++ record_with point.now (Some body.now)) }
+{
+    let (key, body) = (point.copy(), body.copy());
+    made.push(Record { key, body })?;
+    Ok(())
 }
 
 // Adds the same records at the end.

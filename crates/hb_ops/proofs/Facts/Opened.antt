@@ -74,7 +74,7 @@ length-edited there records p body i rise here inside =
     let parts : length (with_body p body records) ≡ length (take i records) + length (record_with p body ++ drop behind records) = ap length (edited_at there records p body i rise here) ∙ length-append (take i records) (record_with p body ++ drop behind records) in
     omega (arith, parts, inside, length-append (record_with p body) (drop behind records), length-take i records, length-drop behind records)
 
-stands_inside : (there : Bool) (records : List Record) (p : List ℕ) (i : ℕ) → StandsAt there p records i → i + cond there 1 0 ≤ length records
+pub stands_inside : (there : Bool) (records : List Record) (p : List ℕ) (i : ℕ) → StandsAt there p records i → i + cond there 1 0 ≤ length records
 stands_inside true records p i here = omega (arith, here.in_range)
 stands_inside false records p i here = omega (arith, here.in_range)
 
