@@ -163,7 +163,7 @@ fn with_edit(
     ensures { IfOk result (λ made. made ≡ edited_page (edit_seen editing.entry) page.now) }
 {
     let records = records.as_slice();
-    let behind = place + usize::from(editing.there);
+    let behind = behind(place, editing.there);
     let edited = records_with(alloc, records, place, behind, editing.point, editing.body)?;
     with_records(alloc, page, editing.point, edited)
 }
@@ -192,6 +192,14 @@ fn with_records(
         area,
         frag,
     })
+}
+
+// Where the records behind a point's begin, by its place among them and whether it is there.
+fn behind(place: usize, there: bool) -> usize
+    requires { place < 2 ^ 63 }
+    ensures { result ≡ place + (if there then 1 else 0) }
+{
+    if there { place + 1 } else { place }
 }
 
 // The records in front of the one place and from the other on, and between them the point's with this body, or none.

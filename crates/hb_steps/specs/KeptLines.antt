@@ -13,7 +13,7 @@ use Rattle.hb_space.specs.Points.{IsBody}
 abbrev pub HasBody : Command → Type 0
 HasBody (Insert rec) = IsBody rec.body
 HasBody (Delete point) = Unit {0}
-HasBody (Change changed) = length changed.body ≤ BMAX
+HasBody (Change changed) = IsBody changed.body
 HasBody (Lookup point) = Unit {0}
 HasBody (Search area) = Unit {0}
 

@@ -1,6 +1,6 @@
-use Rattle.std.proofs.Common.{◌≡◌, ℕ, ◌+◌, ◌<◌, ◌≤◌, ◌==◌, inl, inr, cond, List, length, Option, refl, Bool, true, false, not, sym, subst, ◌∙◌, arith}
+use Rattle.std.proofs.Common.{◌≡◌, ℕ, ◌+◌, ◌<◌, ◌≤◌, ◌==◌, inl, inr, cond, List, length, Option, Some, None, refl, Bor, Bool, true, false, not, sym, subst, ◌∙◌, arith}
 use Rattle.std.proofs.lemmas.Bool.{cases_lt, false≢true}
-use Rattle.std.specs.Option.{is_some}
+use Rattle.std.specs.Option.{is_some, option_map}
 use Rattle.hb_space.specs.declared.records.Record.{Record}
 use Rattle.hb_space.specs.Edits.{Edit}
 use Rattle.hb_ops.specs.Given.{edit_seen}
@@ -9,13 +9,13 @@ use Rattle.hb_ops.proofs.Facts.Opened.{no_room, open_by_edit, rising_at, spot_fo
 use Rattle.hb_ops.proofs.edits.spot_for.Goals as goal
 use Rattle.hb_ops.proofs.edits.spot_for.Goals.{in_default-via-in-Ok+else-editing, in_default-via-in-Err+then-not-editing+else-has_room, in_default-via-in-Err+else-not-editing}
 
-unlike : (b : Bool) → not b ≡ true → b ≡ false
-unlike true is = absurd (false≢true is)
-unlike false is = refl
-
 alike : (b : Bool) → not b ≡ false → b ≡ true
 alike true is = refl
 alike false is = absurd (false≢true (sym is))
+
+some_seen : {A B : Type 0} (f : A → B) (o : Option A) → is_some o ≡ is_some (option_map f o)
+some_seen f None = refl
+some_seen f (Some x) = refl
 
 -- what the test of room says
 fits_so : (w n : ℕ) (records : List Record) (body : Option (List ℕ)) (adds : Bool) → adds ≡ is_some body → w + cond (length records == 0) 0 (cond adds 1 0) ≤ n → w + weight_more records body ≤ n
@@ -50,9 +50,9 @@ pub returns-in-Err : goal.returns-in-Err
 returns-in-Err c =
     let e = edit_seen c.args.editing in
     let records = c.in-Some.records.now in
-    let absent : e.there ≡ false = unlike e.there c.if-not-editing.true in
+    let absent : e.there ≡ false = c.if-not-editing.true in
     let at : StandsAt false e.point records c.in-Err.gap = rw c.as_slice.ensures at c.in-Err.ensures.absent in
-    spot_found c.args.meta.now c.args.page.now e records c.in-Err.gap c.in-Some.ensures (subst (λ (b : Bool). StandsAt b e.point records c.in-Err.gap) (sym absent) at) (λ same. fits_so _ _ records e.body _ c.is_some.ensures (c.has_room.ensures.0 c.if-has_room.true))
+    spot_found c.args.meta.now c.args.page.now e records c.in-Err.gap c.in-Some.ensures (subst (λ (b : Bool). StandsAt b e.point records c.in-Err.gap) (sym absent) at) (λ same. fits_so _ _ records e.body _ (c.is_some.ensures ∙ some_seen (λ (b : Bor (List ℕ)). b.now) c.args.editing.body) (c.has_room.ensures.0 c.if-has_room.true))
 
 pub returns-in_default : goal.returns-in_default
 returns-in_default c =
@@ -61,9 +61,9 @@ returns-in_default c =
     elim c.in_default.branch [
       | in_default-via-in-Ok+else-editing w ↦ stands_otherwise c.args.meta.now c.args.page.now e false records w.in-Ok.place w.if-editing.false c.in-Some.ensures (rw c.as_slice.ensures at w.in-Ok.ensures.found)
       | in_default-via-in-Err+then-not-editing+else-has_room w ↦ 
-          let absent : e.there ≡ false = unlike e.there w.if-not-editing.true in
+          let absent : e.there ≡ false = w.if-not-editing.true in
           let at : StandsAt false e.point records w.in-Err.gap = rw c.as_slice.ensures at w.in-Err.ensures.absent in
           no_room c.args.meta.now c.args.page.now e records w.in-Err.gap absent c.in-Some.ensures (subst (λ (b : Bool). StandsAt b e.point records w.in-Err.gap) (sym absent) at)
-          (fits_not _ _ records e.body _ w.is_some.ensures (λ le. false≢true (sym w.if-has_room.false ∙ w.has_room.ensures.1 le)))
+          (fits_not _ _ records e.body _ (w.is_some.ensures ∙ some_seen (λ (b : Bor (List ℕ)). b.now) c.args.editing.body) (λ le. false≢true (sym w.if-has_room.false ∙ w.has_room.ensures.1 le)))
       | in_default-via-in-Err+else-not-editing w ↦ stands_otherwise c.args.meta.now c.args.page.now e true records w.in-Err.gap (alike e.there w.if-not-editing.false) c.in-Some.ensures (rw c.as_slice.ensures at w.in-Err.ensures.absent)
     ]

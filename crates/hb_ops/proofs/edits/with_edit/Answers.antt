@@ -8,10 +8,11 @@ use Rattle.hb_ops.proofs.Facts.Opened.{page_made, rising_at, stands_inside}
 use Rattle.hb_ops.proofs.Facts.Places.{edited_at}
 use Rattle.hb_ops.proofs.edits.with_edit.Goals as goal
 
-pub overflow_add-behind : goal.overflow_add-behind
-overflow_add-behind c =
-    let e = edit_seen c.args.editing in
-    omega (arith, stands_inside e.there c.args.records.now e.point c.args.place c.requires.stands, c.as_slice-records.ensures, c.from.ensures, c.as_slice-records.type_inv)
+pub behind-behind-requires : goal.behind-behind-requires
+behind-behind-requires c =
+    let within = stands_inside c.args.editing.there c.args.records.now c.args.editing.point.now c.args.place c.requires.stands in
+    let long : length c.as_slice-records.result.now ≡ length c.args.records.now = ap length c.as_slice-records.ensures in
+    omega (arith, within, long, c.as_slice-records.type_inv)
 
 pub returns : goal.returns
 returns c =
@@ -20,6 +21,6 @@ returns c =
     let records = c.args.records.now in
     let rise = rising_at c.args.page.now e.point records opened.area opened.made.in_order opened.leaf in
     let is = rw c.as_slice-records.ensures at c.in_ok-edited.ensures in
-    let from : ◌≡◌ {A = List Record} (take c.args.place records ++ (record_with e.point e.body ++ drop (c.args.place + c.from.result) records)) _ = ap (λ (n : ℕ). take c.args.place records ++ (record_with e.point e.body ++ drop (c.args.place + n) records)) c.from.ensures in
+    let from = ap (λ (n : ℕ). take c.args.place records ++ (record_with e.point e.body ++ drop n records)) c.behind-behind.ensures in
     let same = page_made c.args.meta.now c.args.page.now e.point records c.in_ok-edited.edited (with_body e.point e.body) opened (is ∙ from ∙ sym (edited_at e.there records e.point e.body c.args.place rise c.requires.stands)) in
     subst (λ (page : LivePage). IfOk c.with_records.result (λ made. made ≡ page)) same c.with_records.ensures
