@@ -8,14 +8,16 @@ use Rattle.hb_frag.specs.declared.pages.Page.{Page}
 use Rattle.hb_layout.specs.declared.limits.TheConstants.{PAGES_MAX}
 use Rattle.hb_log_codec.specs.Groups.{FitsGroup, FitsOp, Logged, group_bytes}
 use Rattle.hb_ops.specs.declared.operations.Op.{Op}
-use Rattle.hb_ops.specs.Operations.{OpHas, reads_of}
+use Rattle.hb_space.specs.Edits.{Edit}
+use Rattle.hb_ops.specs.declared.operations.Op.TheVariants.{Put, Del, Change, Extract, Post, Merge, Grow}
+use Rattle.hb_ops.specs.Operations.{OpHas, edit_of, reads_of}
 use Rattle.hb_pool.specs.Frames.{Frame}
 use Rattle.hb_wal.specs.Log.{MayJoin}
 use Rattle.hb_store.specs.Calls.{IsAllowedHere, change_here, read_here}
 use Rattle.hb_store.specs.CommittedHere.{CanCommit}
 use Rattle.hb_store.specs.Filling.{in_frame}
 use Rattle.hb_store.specs.Held.{StoreHeld}
-use Rattle.hb_store.specs.Making.{HasFittingParts, IsGoodChange, MakesGoodPages, MakesWell, group_here, page_images_needed, record_op}
+use Rattle.hb_store.specs.Making.{HasFittingParts, IsGoodChange, MakesGoodPages, MakesWell, group_here, page_images_needed, EditsHere}
 use Rattle.hb_store.specs.States.{IsMemory, StoreState, in_memory, is_in_log}
 use Rattle.hb_store.proofs.Committing.{made_well}
 use Rattle.hb_store.proofs.Facts.Changed.{reads_numbered, still_stands}
@@ -54,9 +56,9 @@ record_parts (Put page rec) at is = tt
 record_parts (Del page point) at is = tt
 record_parts (Change page rec) at is = tt
 record_parts (Extract source fresh path cuts free_after) at is = cc
-record_parts (Post parent at inner area) page is = cc
-record_parts (Merge parent keep gone) at is = tt
-record_parts (Grow fresh free_after) at is = tt
+record_parts (Post parent at inner area) which is = cc
+record_parts (Merge parent keep gone) at is = cc
+record_parts (Grow fresh free_after) at is = cc
 
 module _ (makes : MakesGoodPages) (held : StoreHeld) (is : IsMemory held.state) (op : Op) (mark : ℕ) (may : CanCommit op mark held) (fits : (k : ℕ) → OpHas k op → FitsOp k op) where
   abbrev now : StoreState

@@ -1,8 +1,8 @@
 //! Groups of the log to bytes.
-ghost use Rattle.std.specs.Prelude.{◌≡◌, ℕ, ◌≤◌, [], ◌∷◌, ◌++◌, length, flat_map, option_map, option_copied, IfOk, IfSome, OnOk};
+ghost use Rattle.std.specs.Prelude.{◌≡◌, ℕ, ◌≤◌, [], ◌∷◌, ◌++◌, length, flat_map, option_map, option_copied, IfOk, IfSome, IsSome, OnOk};
 ghost use Rattle.std.specs.FinSet as set;
 ghost use Rattle.hb_frag.specs.Grammar.{SpellsPage};
-ghost use Rattle.hb_ops.specs.Operations.{OpHas, reads_of};
+ghost use Rattle.hb_ops.specs.Operations.{OpHas, edit_of, reads_of};
 ghost use Rattle.hb_log_codec.specs.Groups.{FitsOp, group_bytes, op_bytes, page_image_bytes};
 ghost use Rattle.hb_view.specs.Spelled.{page_spelled};
 ghost use Rattle.hb_store.specs.Filling.{in_frame};

@@ -9,10 +9,6 @@ use Rattle.hb_ops.proofs.Facts.Opened.{no_room, open_by_edit, rising_at, spot_fo
 use Rattle.hb_ops.proofs.edits.spot_for.Goals as goal
 use Rattle.hb_ops.proofs.edits.spot_for.Goals.{in_default-via-in-Ok+else-editing, in_default-via-in-Err+then-not-editing+else-has_room, in_default-via-in-Err+else-not-editing}
 
-alike : (b : Bool) → not b ≡ false → b ≡ true
-alike true is = refl
-alike false is = absurd (false≢true (sym is))
-
 some_seen : {A B : Type 0} (f : A → B) (o : Option A) → is_some o ≡ is_some (option_map f o)
 some_seen f None = refl
 some_seen f (Some x) = refl
@@ -65,5 +61,5 @@ returns-in_default c =
           let at : StandsAt false e.point records w.in-Err.gap = rw c.as_slice.ensures at w.in-Err.ensures.absent in
           no_room c.args.meta.now c.args.page.now e records w.in-Err.gap absent c.in-Some.ensures (subst (λ (b : Bool). StandsAt b e.point records w.in-Err.gap) (sym absent) at)
           (fits_not _ _ records e.body _ (w.is_some.ensures ∙ some_seen (λ (b : Bor (List ℕ)). b.now) c.args.editing.body) (λ le. false≢true (sym w.if-has_room.false ∙ w.has_room.ensures.1 le)))
-      | in_default-via-in-Err+else-not-editing w ↦ stands_otherwise c.args.meta.now c.args.page.now e true records w.in-Err.gap (alike e.there w.if-not-editing.false) c.in-Some.ensures (rw c.as_slice.ensures at w.in-Err.ensures.absent)
+      | in_default-via-in-Err+else-not-editing w ↦ stands_otherwise c.args.meta.now c.args.page.now e true records w.in-Err.gap w.if-not-editing.false c.in-Some.ensures (rw c.as_slice.ensures at w.in-Err.ensures.absent)
     ]
