@@ -172,8 +172,9 @@ def audit(meta, pages):
     return ("ok", sum(len(leaf[1]) for i in in_use for leaf, _ in leaves(live(i)[2], live(i)[1]) if leaf[0] == "records" and live(i)[0] == 0))
 
 
-def choose(page):
-    """The path and the cuts of the part that leaves a full page, and the part's weight."""
+def choose(page, wide=False):
+    """The path and the cuts of the part that leaves a full page, and the part's weight. Of planes whose heavier sides weigh
+    the same, `wide` takes that of the attribute in which the records extend furthest."""
     level, box, tree = page
     n, path, cuts_made = weight(tree), "", []
     while 3 * weight(tree) > 2 * n and tree[0] == "cut":
@@ -188,13 +189,14 @@ def choose(page):
     while 3 * max(1, len(records)) > 2 * n:
         best = None
         for axis in range(len(box[0])):
-            values = sorted({p[axis] for p, _ in records})[1:]
-            for value in values:
+            values = sorted({p[axis] for p, _ in records})
+            extent = values[-1] - values[0] if wide else 0
+            for value in values[1:]:
                 left = sum(p[axis] < value for p, _ in records)
-                key = (max(left, len(records) - left), axis, value)
+                key = (max(left, len(records) - left), -extent, axis, value)
                 if best is None or key < best:
                     best = key
-        _, axis, value = best
+        _, _, axis, value = best
         low = [r for r in records if r[0][axis] < value]
         high = [r for r in records if r[0][axis] >= value]
         side, records = ("L", low) if len(low) >= len(high) else ("R", high)

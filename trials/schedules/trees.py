@@ -153,18 +153,20 @@ def carved(leaf, area, outer, inner):
 
 # ---- the part that leaves a full page
 
-def best_cut(records, k):
+def best_cut(records, k, wide=False):
+    """Of planes whose heavier sides weigh the same, `wide` takes that of the attribute in which the records extend furthest."""
     choices = []
     for axis in range(k):
         values = sorted({point[axis] for point, _ in records})
+        extent = values[-1] - values[0] if wide else 0
         for value in values[1:]:
             below = sum(point[axis] < value for point, _ in records)
-            choices.append((max(below, len(records) - below), axis, value, below))
-    _, axis, value, below = min(choices)
+            choices.append((max(below, len(records) - below), -extent, axis, value, below))
+    _, _, axis, value, below = min(choices)
     return axis, value, len(records) - below > below
 
 
-def split(page, fresh):
+def split(page, fresh, wide=False):
     """What stays of a page, and the page that is made of the part that leaves."""
     level, box, frag = page
     whole, way, node = weight(frag), [], frag
@@ -175,7 +177,7 @@ def split(page, fresh):
     box_of, node = part(box, frag, way)
     cuts = []
     while 3 * weight(node) > 2 * whole:
-        axis, value, right = best_cut(node[1], len(box))
+        axis, value, right = best_cut(node[1], len(box), wide)
         below = ("records", tuple(r for r in node[1] if r[0][axis] < value))
         above = ("records", tuple(r for r in node[1] if r[0][axis] >= value))
         cuts.append((axis, value, right, above if not right else below))

@@ -14,6 +14,8 @@ use Rattle.hb_activity.specs.declared.deciding.Next.{Next}
 use Rattle.hb_activity.specs.Classes.{Hand, HasLine, hand_of}
 use Rattle.hb_activity.specs.Deeds.{Answers, Deed, GoesOn, Says}
 use Rattle.hb_activity.specs.Sights.{Sight}
+use Rattle.hb_split.specs.declared.rules.CutRule.{CutRule}
+use Rattle.hb_split.specs.declared.rules.CutRule.TheVariants.{Least}
 
 -- what a decider's answer says
 pub record NextIs (next : Next) (after : Activity) (does : Option Op) (adds : List Job) (becomes : Fate) : Type 0 where
@@ -59,13 +61,17 @@ deed_of activity next = record {
 }
 
 -- What a decider is given: pages by their numbers, of which the first one of a number counts; the number that a made page takes;
--- and what the file says of itself. The next place of the order is 0 for it.
+-- and what the file says of itself. The next place of the order is 0 for it, and the rule of cutting the papers'.
 abbrev pub page_among : List (ℕ × LivePage) → ℕ → Option LivePage
 page_among [] id = None
 page_among ((number, page) ∷ rest) id = if number == id then Some page else page_among rest id
 
 abbrev pub given_sight : Meta → List (ℕ × LivePage) → Option (ℕ × ℕ) → Sight
-given_sight meta pages next = record { meta = meta; page_at = page_among pages; next = next; place = 0 }
+given_sight meta pages next = record { meta = meta; page_at = page_among pages; next = next; place = 0; rule = Least }
+
+-- the same, of a decider that cuts pages and is told by which rule
+abbrev pub cutting_sight : CutRule → Meta → List (ℕ × LivePage) → Option (ℕ × ℕ) → Sight
+cutting_sight rule meta pages next = record { meta = meta; page_at = page_among pages; next = next; place = 0; rule = rule }
 
 -- The pages that a step is given, by their numbers: the one that the row speaks of; where a record is put the other half behind it;
 -- and in front of a child its parent.

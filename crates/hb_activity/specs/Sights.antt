@@ -2,6 +2,7 @@
 use Rattle.std.specs.Prelude.{ℕ, Option}
 use Rattle.hb_frag.specs.declared.pages.LivePage.{LivePage}
 use Rattle.hb_layout.specs.declared.meta.Meta.{Meta}
+use Rattle.hb_split.specs.declared.rules.CutRule.{CutRule}
 
 pub record Sight : Type 0 where
   -- what the file says of itself
@@ -12,3 +13,5 @@ pub record Sight : Type 0 where
   pub next : Option (ℕ × ℕ)
   -- how many lines have taken effect: the place in the order of the next one
   pub place : ℕ
+  -- which attribute of equal ones a page is cut by
+  pub rule : CutRule

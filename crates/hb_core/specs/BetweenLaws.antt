@@ -1,5 +1,6 @@
 -- What stays known of a machine and of a core's counts while a caller takes steps, lets jobs wait and looks at pages, as laws.
 use Rattle.std.specs.Prelude.{◌≡◌, ℕ, ◌+◌, ◌-◌, ◌^◌, ◌≤◌, List}
+use Rattle.hb_split.specs.declared.rules.CutRule.{CutRule}
 use Rattle.hb_activity.specs.declared.jobs.Job.{Job}
 use Rattle.hb_pool.specs.Frames.{Use}
 use Rattle.hb_set.specs.Machine.{RecordSet}
@@ -11,7 +12,7 @@ use Rattle.hb_steps.specs.KeptFits.{JobFits}
 use Rattle.hb_steps.specs.KeptMachine.{CoreKeeps}
 use Rattle.hb_steps.specs.Machines.{Files, Machine}
 use Rattle.hb_core.specs.Showing.{RunningCore}
-use Rattle.hb_core.specs.Taking.{begun_core}
+use Rattle.hb_core.specs.Taking.{begun_core_by}
 use Rattle.hb_core.specs.Going.{MayGoOn}
 
 -- Steps may be taken of it as before, over any disk.
@@ -32,7 +33,7 @@ LookingKeepsAll = (n : RecordSet) (m : Machine) (files : Files) (id : ℕ) (new 
 -- No more operations of a kind are counted than steps; and the file's height rises by the growths that are counted, until that count
 -- stands still.
 pub record CountsStayWithin : Type 0 where
-  pub begun : (lines : List Line) (steps : List ℕ) (store : StoreState) (uses : List Use) → CountsWithin (begun_core lines steps store uses)
+  pub begun : (rule : CutRule) (lines : List Line) (steps : List ℕ) (store : StoreState) (uses : List Use) → CountsWithin (begun_core_by rule lines steps store uses)
   pub step : (actor : ℕ) (old new : RunningCore) → CountsStep actor old new → CountsWithin old → CountsWithin new
   pub flush : (old new : RunningCore) → CountsFlush old new → CountsWithin old → CountsWithin new
   pub stay : (old new : RunningCore) → CountsStay old new → CountsWithin old → CountsWithin new

@@ -9,6 +9,7 @@ abbrev pub core_seen : {D : Type 0} {g : Ghosts D} → Core D g → RunningCore
 core_seen c = record {
   lines = c.script.lines;
   steps = c.script.steps;
+  rule = c.rule;
   behind = c.behind;
   activities = c.activities.items;
   latches = c.latches;

@@ -1,6 +1,7 @@
 -- When a core over a disk shows a machine, and when a machine is reached.
 use Rattle.std.specs.Prelude.{◌≡◌, ◌≢◌, ◌⊎◌, ℕ, ◌-◌, ◌≤◌, All, List, map, take, drop, length, Option, Some, None, IsSome}
 use Rattle.std.specs.List.{slice_get}
+use Rattle.hb_split.specs.declared.rules.CutRule.{CutRule}
 use Rattle.hb_space.specs.declared.actors.TheConstants.{SESSIONS, ACTORS}
 use Rattle.hb_disk.specs.Model.{DiskModel}
 use Rattle.hb_latch.specs.Tables.{LatchTable, mode_at}
@@ -23,6 +24,8 @@ pub record RunningCore : Type 0 where
   -- the script: its lines, and who takes each step
   pub lines : List Line
   pub steps : List ℕ
+  -- which attribute of equal ones a page is cut by
+  pub rule : CutRule
   -- how many of the lines lie behind each session, session 1 first: all that it took, and those of others between them;
   -- or all, once none of its own was left
   pub behind : List ℕ
@@ -71,6 +74,7 @@ pub record ShowsFiles (d : DiskModel) (m : Machine) : Type 0 where
 -- A core over a disk shows a machine: all that it holds is the machine's.
 pub record ShowsMachine (d : DiskModel) (c : RunningCore) (m : Machine) : Type 0 where
   pub lines : m.lines ≡ c.lines
+  pub rule : m.rule ≡ c.rule
   pub sessions : length c.behind ≡ SESSIONS
   pub turns : (session behind : ℕ) → 1 ≤ session → session ≤ SESSIONS → slice_get c.behind (session - 1) ≡ Some behind → HasTurn m session behind
   pub all_actors : length c.activities ≡ ACTORS

@@ -2,6 +2,8 @@
 use Rattle.std.specs.Prelude.{◌≡◌, ◌≢◌, ◌⊎◌, ℕ, Result, IfOk, IfErr, ◌-◌, ◌+◌, All, List, [], ◌∷◌, ◌++◌, length, take, drop, replicate, Some, None, ◌<◌, IfSome, IsSomeAnd}
 use Rattle.std.specs.List.{slice_get, slice_set}
 use Rattle.std.specs.FinMap as map
+use Rattle.hb_split.specs.declared.rules.CutRule.{CutRule}
+use Rattle.hb_split.specs.declared.rules.CutRule.TheVariants.{Least}
 use Rattle.hb_space.specs.declared.actors.TheConstants.{SESSIONS}
 use Rattle.hb_activity.specs.declared.activities.Activity.{Activity}
 use Rattle.hb_activity.specs.declared.activities.Activity.TheVariants as at
@@ -87,10 +89,11 @@ TakesNextMerging actor outcome old new =
 abbrev pub all_idle : List Activity
 all_idle = replicate SESSIONS at.SessionIdle ++ at.PosterIdle ∷ at.ConsolidatorIdle ∷ at.Flusher ∷ []
 
-abbrev pub begun_core : List Line → List ℕ → StoreState → List Use → RunningCore
-begun_core lines steps store uses = record {
+abbrev pub begun_core_by : CutRule → List Line → List ℕ → StoreState → List Use → RunningCore
+begun_core_by rule lines steps store uses = record {
   lines = lines;
   steps = steps;
+  rule = rule;
   behind = replicate SESSIONS 0;
   activities = all_idle;
   latches = map.empty;
@@ -102,6 +105,10 @@ begun_core lines steps store uses = record {
   taken = 0;
   done = no_counts;
 }
+
+-- the same under the papers' rule
+abbrev pub begun_core : List Line → List ℕ → StoreState → List Use → RunningCore
+begun_core lines steps store uses = begun_core_by Least lines steps store uses
 
 -- A core was made that holds this over this disk, or the store comes back.
 pub record IsMade {C D S E : Type 0} (seen_of : C → RunningCore) (disk_of : C → D) (core : RunningCore) (over : D) (store : S) (result : Result C (E × S)) : Type 0 where

@@ -92,7 +92,7 @@ impl<D: Device> Core<D> {
     fn ask_searcher(&self, state: Activity, wanted: Option<Wanted>) -> Result<Next, NoMemory>
         requires { AsksSearcher (core_seen self.now).store state (number_of_row state wanted) }
         ensures row { IfOk result (λ next. (place : ℕ) →
-            HasSearchRow (core_seen self.now).store state (number_of_row state wanted) place (placed place (deed_of state next))) }
+            HasSearchRow (core_seen self.now).store (core_seen self.now).rule state (number_of_row state wanted) place (placed place (deed_of state next))) }
         ensures memory { OnErr result (GathersAt (core_seen self.now).store state (number_of_row state wanted)) }
     {
         let id = page_of(&state, wanted);
@@ -111,7 +111,7 @@ impl<D: Device> Core<D> {
     ) -> Result<Next, NoMemory>
         requires { AsksPoint (core_seen self.now).store state (number_of_row state wanted) free }
         ensures row { IfOk result (λ next. (place : ℕ) →
-            HasPointRow (core_seen self.now).store state (number_of_row state wanted) place (placed place (deed_of state next))) }
+            HasPointRow (core_seen self.now).store (core_seen self.now).rule state (number_of_row state wanted) place (placed place (deed_of state next))) }
         ensures memory { OnErr result (DecodesNow state free) }
     {
         let id = page_of(&state, wanted);
@@ -131,7 +131,7 @@ impl<D: Device> Core<D> {
     fn walk_to_point(&self, state: Activity, id: u32) -> Next
         requires walks { IsSessionWalk state }
         requires asks { AsksPoint (core_seen self.now).store state id None }
-        ensures { (place : ℕ) → HasPointRow (core_seen self.now).store state id place (placed place (deed_of state result)) }
+        ensures { (place : ℕ) → HasPointRow (core_seen self.now).store (core_seen self.now).rule state id place (placed place (deed_of state result)) }
     {
         match self.live(id) {
             Some(view) => hb_point::descend(state, id, view, self.store.meta()),
@@ -143,7 +143,7 @@ impl<D: Device> Core<D> {
     fn put_in_half(&self, state: Activity, id: u32) -> Next
         requires puts { IsSessionPut state }
         requires asks { (free : Option (ℕ × ℕ)) × AsksPoint (core_seen self.now).store state id free }
-        ensures { (place : ℕ) → HasPointRow (core_seen self.now).store state id place (placed place (deed_of state result)) }
+        ensures { (place : ℕ) → HasPointRow (core_seen self.now).store (core_seen self.now).rule state id place (placed place (deed_of state result)) }
     {
         match self.live(id) {
             Some(view) => hb_point::put_in_half(state, &view),
@@ -155,14 +155,14 @@ impl<D: Device> Core<D> {
     fn part(&self, state: Activity, id: u32, free: Option<(u32, u32)>) -> Result<Next, NoMemory>
         requires halves { ¬ (IsSessionWalk state) }
         requires asks { AsksPoint (core_seen self.now).store state id free }
-        ensures { IfOk result (λ next. (place : ℕ) → HasPointRow (core_seen self.now).store state id place (placed place (deed_of state next))) }
+        ensures { IfOk result (λ next. (place : ℕ) → HasPointRow (core_seen self.now).store (core_seen self.now).rule state id place (placed place (deed_of state next))) }
     {
         let page = self.decoded(id)?;
         let other = self.other(&state)?;
         let meta = self.store.meta();
         let page = &page;
         let latched = Latched { id, page, meta };
-        hb_point::next(self.alloc, state, latched, other.as_ref(), free)
+        hb_point::next(self.alloc, self.rule, state, latched, other.as_ref(), free)
     }
 
     /// The page of the number, which is in memory and in use, with memory of its own.

@@ -16,7 +16,8 @@ ghost use Rattle.hb_steps.specs.KeptMachine.{MachineKeeps};
 ghost use Rattle.hb_core.specs.Runs.{has_none, left_count, left_numbers};
 ghost use Rattle.hb_steps.specs.SteppingLaws.{IsBegun};
 ghost use Rattle.hb_steps.specs.ProgressLaws.{jobs_in_work, jobs_of, worker_for};
-ghost use Rattle.hb_core.specs.Taking.{IsMade, all_idle, begun_core};
+ghost use Rattle.hb_core.specs.Taking.{IsMade, all_idle, begun_core, begun_core_by};
+ghost use Rattle.hb_split.specs.declared.rules.CutRule.TheVariants.{Least};
 ghost use Rattle.hb_space.specs.declared.actors.TheConstants.{SESSIONS};
 ghost use Rattle.hb_core.specs.Showing.{ShowsFiles, ShowsMachine, number_in_hand};
 
@@ -31,6 +32,7 @@ use hb_layout::Meta;
 use hb_set::{Line, Script};
 use hb_space::actors::{ACTORS, CONSOLIDATOR, FLUSHER, POSTER, SESSIONS};
 use hb_space::{Actor, NoMemory};
+use hb_split::CutRule;
 use hb_store::{StopWhy, Store};
 use hb_view::PageView;
 use std::alloc::Global;
@@ -49,27 +51,47 @@ impl<D: Device> Core<D> {
         ensures seen { IfOk result (λ c. core_seen c ≡ begun_core script.lines script.steps (seen_as store) (uses_of store)) }
         ensures disk { IfOk result (λ c. core_disk c ≡ disk_of store) }
         ensures back { IfErr result (λ e. e.1 ≡ store) }
-        ensures shows { IfOk result (λ c. (m : Machine) → IsBegun m → m.lines ≡ script.lines → m.store ≡ seen_as store → m.uses ≡ uses_of store →
+        ensures shows { IfOk result (λ c. (m : Machine) → IsBegun m → m.rule ≡ Least → m.lines ≡ script.lines → m.store ≡ seen_as store → m.uses ≡ uses_of store →
             (IsSome (D.model (disk_of store)).told → ShowsFiles (D.model (disk_of store)) m) → ((D.model (disk_of store)).told ≡ None → m.files ≡ None) →
             ShowsMachine (D.model (core_disk c)) (core_seen c) m) }
     {
-        Core::begun(alloc, store, script)
+        Core::over_by(alloc, CutRule::Least, store, script)
+    }
+
+    /// The same under a rule of cutting pages, which no step changes. It isn't stored in the file.
+    pub fn over_by(
+        alloc: Global,
+        rule: CutRule,
+        store: Store<D>,
+        script: Script,
+    ) -> Result<Core<D>, (NoMemory, Store<D>)>
+        requires few { length script.lines < 2 ^ 32 }
+        ensures seen { IfOk result (λ c. core_seen c ≡ begun_core_by rule script.lines script.steps (seen_as store) (uses_of store)) }
+        ensures disk { IfOk result (λ c. core_disk c ≡ disk_of store) }
+        ensures back { IfErr result (λ e. e.1 ≡ store) }
+        ensures shows { IfOk result (λ c. (m : Machine) → IsBegun m → m.rule ≡ rule → m.lines ≡ script.lines → m.store ≡ seen_as store → m.uses ≡ uses_of store →
+            (IsSome (D.model (disk_of store)).told → ShowsFiles (D.model (disk_of store)) m) → ((D.model (disk_of store)).told ≡ None → m.files ≡ None) →
+            ShowsMachine (D.model (core_disk c)) (core_seen c) m) }
+    {
+        Core::begun(alloc, rule, store, script)
     }
 
     /// The same, with what the core holds alone.
     fn begun(
         alloc: Global,
+        rule: CutRule,
         store: Store<D>,
         script: Script,
     ) -> Result<Core<D>, (NoMemory, Store<D>)>
         requires { length script.lines < 2 ^ 32 }
-        ensures { IsMade core_seen core_disk (begun_core script.lines script.steps (seen_as store) (uses_of store)) (disk_of store) store result }
+        ensures { IsMade core_seen core_disk (begun_core_by rule script.lines script.steps (seen_as store) (uses_of store)) (disk_of store) store result }
     {
         match rooms(alloc, script.lines.as_slice().len()) {
             Ok((jobs, order)) => Ok(Core {
                 alloc,
                 store,
                 script,
+                rule,
                 behind: [0; SESSIONS as usize],
                 activities: idle_actors(),
                 latches: Latches::new(),

@@ -9,6 +9,7 @@ use hb_disk::Device;
 use hb_latch::Latches;
 use hb_set::Script;
 use hb_space::actors::{ACTORS, SESSIONS};
+use hb_split::CutRule;
 use hb_store::{StopWhy, Store};
 use std::alloc::Global;
 
@@ -20,6 +21,8 @@ pub struct Core<D: Device> {
     pub(crate) store: Store<D>,
     /// The command lines, which no step changes.
     pub(crate) script: Script,
+    /// Which attribute of equal ones a page is cut by, which no step changes.
+    pub(crate) rule: CutRule,
     /// How many of the lines lie behind each session: all that it took, and those of others between them;
     /// or all, once none of its own was left.
     pub(crate) behind: [usize; SESSIONS as usize],

@@ -39,7 +39,7 @@ impl<D: Device> Core<D> {
     ) -> Result<Next, NoMemory>
         requires { AsksPoster (core_seen self.now).store state (number_of_row state wanted) free }
         ensures row { IfOk result (λ next. (place : ℕ) →
-            HasPosterRow (core_seen self.now).store state (number_of_row state wanted) place (placed place (deed_of state next))) }
+            HasPosterRow (core_seen self.now).store (core_seen self.now).rule state (number_of_row state wanted) place (placed place (deed_of state next))) }
         ensures memory { OnErr result (¬ (OnlyMovesOn state)) }
     {
         let id = page_of(&state, wanted);
@@ -53,7 +53,7 @@ impl<D: Device> Core<D> {
     fn move_to_post(&self, state: Activity, id: u32) -> Next
         requires moves { OnlyMovesOn state }
         requires asks { (free : Option (ℕ × ℕ)) × AsksPoster (core_seen self.now).store state id free }
-        ensures { (place : ℕ) → HasPosterRow (core_seen self.now).store state id place (placed place (deed_of state result)) }
+        ensures { (place : ℕ) → HasPosterRow (core_seen self.now).store (core_seen self.now).rule state id place (placed place (deed_of state result)) }
     {
         match self.live(id) {
             Some(view) => hb_poster::descend(state, id, &view),
@@ -64,14 +64,14 @@ impl<D: Device> Core<D> {
     /// What the poster's decider says of this activity.
     fn post(&self, state: Activity, id: u32, free: Option<(u32, u32)>) -> Result<Next, NoMemory>
         requires { AsksPoster (core_seen self.now).store state id free }
-        ensures { IfOk result (λ next. (place : ℕ) → HasPosterRow (core_seen self.now).store state id place (placed place (deed_of state next))) }
+        ensures { IfOk result (λ next. (place : ℕ) → HasPosterRow (core_seen self.now).store (core_seen self.now).rule state id place (placed place (deed_of state next))) }
     {
         let page = self.decoded(id)?;
         let other = self.other(&state)?;
         let meta = self.store.meta();
         let page = &page;
         let latched = Latched { id, page, meta };
-        hb_poster::next(self.alloc, state, latched, other.as_ref(), free)
+        hb_poster::next(self.alloc, self.rule, state, latched, other.as_ref(), free)
     }
 
     /// What a step of the consolidator comes to.
@@ -82,7 +82,7 @@ impl<D: Device> Core<D> {
     ) -> Result<Next, NoMemory>
         requires { AsksMerger (core_seen self.now).store state (number_of_row state wanted) }
         ensures row { IfOk result (λ next. (place : ℕ) →
-            HasMergerRow (core_seen self.now).store state (number_of_row state wanted) place (placed place (deed_of state next))) }
+            HasMergerRow (core_seen self.now).store (core_seen self.now).rule state (number_of_row state wanted) place (placed place (deed_of state next))) }
         ensures memory { OnErr result (¬ (OnlyMovesToMerge state)) }
     {
         let id = page_of(&state, wanted);
@@ -97,7 +97,7 @@ impl<D: Device> Core<D> {
     fn move_to_merge(&self, state: Activity, id: u32) -> Next
         requires moves { OnlyMovesToMerge state }
         requires asks { AsksMerger (core_seen self.now).store state id }
-        ensures { (place : ℕ) → HasMergerRow (core_seen self.now).store state id place (placed place (deed_of state result)) }
+        ensures { (place : ℕ) → HasMergerRow (core_seen self.now).store (core_seen self.now).rule state id place (placed place (deed_of state result)) }
     {
         match self.live(id) {
             Some(view) => hb_consol::descend(state, id, &view),
@@ -108,7 +108,7 @@ impl<D: Device> Core<D> {
     /// What the consolidator's decider says of this activity.
     fn pair(&self, state: Activity, id: u32) -> Result<Next, NoMemory>
         requires { AsksMerger (core_seen self.now).store state id }
-        ensures { IfOk result (λ next. (place : ℕ) → HasMergerRow (core_seen self.now).store state id place (placed place (deed_of state next))) }
+        ensures { IfOk result (λ next. (place : ℕ) → HasMergerRow (core_seen self.now).store (core_seen self.now).rule state id place (placed place (deed_of state next))) }
     {
         let page = self.decoded(id)?;
         let other = self.other(&state)?;

@@ -52,7 +52,7 @@ splits_are_allowed s line held deed op row given made full is =
     let leaves = row.leaves in
     let one = allocates s leaves.fresh leaves.free_after given leaves.free leaves.next in
     one_shown (IsAllowedAlone s held row.page) deed _ (ops.Extract held leaves.fresh leaves.path leaves.cuts leaves.free_after) row.deed_is refl
-    (record { reads = refl; allowed = chosen_fits s.meta row.page leaves.path leaves.cuts leaves.fresh leaves.free_after made leaves.chosen full one }) op is
+    (record { reads = refl; allowed = chosen_fits s.rule s.meta row.page leaves.path leaves.cuts leaves.fresh leaves.free_after made leaves.chosen full one }) op is
 
 pub puts_are_allowed : PutsAreAllowed
 puts_are_allowed s line source fresh deed op row made absent room is = one_shown (IsAllowedAlone s row.half row.page) deed _ _ row.deed_is refl (put_allowed s row.half row.page made row.rec absent room) op is

@@ -2,7 +2,7 @@
 use Rattle.std.proofs.Common.{◌≡◌, ◌⊎◌, ◌↔◌, inl, inr, ℕ, ◌<◌, Bool, IsTrue, List, [], ◌∷◌, Option, Some, refl, sym, ap, subst, ◌∙◌}
 use Rattle.std.proofs.lemmas.Bool.{cases_Bool, false≢true}
 use Rattle.hb_activity.proofs.Facts.GivenPages.{first_given, next_given}
-use Rattle.hb_activity.specs.Deciding.{NextIs, deed_of, given_pages, given_sight, page_among}
+use Rattle.hb_activity.specs.Deciding.{NextIs, deed_of, cutting_sight, given_pages, page_among}
 use Rattle.hb_activity.specs.declared.activities.Activity.{Activity}
 use Rattle.hb_activity.specs.declared.activities.Activity.TheVariants as at
 use Rattle.hb_activity.specs.declared.deciding.Fate.TheVariants as fates
@@ -28,18 +28,19 @@ use Rattle.hb_set.specs.declared.commands.Reply.TheVariants as replies
 use Rattle.hb_set.specs.declared.scripts.Line.{Line}
 use Rattle.hb_space.specs.Boxes.{Area}
 use Rattle.hb_space.specs.declared.records.Record.{Record}
-use Rattle.hb_split.specs.Choosing.{IsChosen}
+use Rattle.hb_split.specs.declared.rules.CutRule.{CutRule}
+use Rattle.hb_split.specs.Choosing.{IsChosenBy}
 use Rattle.hb_view.specs.Views.{IsLiveAnd}
 use Rattle.hb_point.proofs.ViewedRows.{so, so_both}
 
 -- ---- a split
 
-pub splits_off : (meta : Meta) (line : Line) (id held fresh free_after : ℕ) (page : LivePage) (path : List Side) (cuts : List LeafCut) (part : Tree × Area) (next : Next) →
-    id ≡ held → meta.live < meta.pages → IsChosen page path cuts → part_at path page.frag page.area ≡ Some part →
+pub splits_off : (rule : CutRule) (meta : Meta) (line : Line) (id held fresh free_after : ℕ) (page : LivePage) (path : List Side) (cuts : List LeafCut) (part : Tree × Area) (next : Next) →
+    id ≡ held → meta.live < meta.pages → IsChosenBy rule page path cuts → part_at path page.frag page.area ≡ Some part →
     next.then ≡ at.SessionPut line held fresh → next.op ≡ Some (Extract held fresh path cuts free_after) →
     next.jobs.items ≡ record { kind = Post; level = 1; point = (reached cuts part.0 part.1).1.lo } ∷ [] → next.fate ≡ fates.GoesOn →
-    SplitsOrFull (given_sight meta ((id, page) ∷ []) (Some (fresh, free_after))) line held (deed_for line next)
-splits_off meta line id held fresh free_after page path cuts part next given some chosen found then_is op_is jobs_is fate_is = inr (record {
+    SplitsOrFull (cutting_sight rule meta ((id, page) ∷ []) (Some (fresh, free_after))) line held (deed_for line next)
+splits_off rule meta line id held fresh free_after page path cuts part next given some chosen found then_is op_is jobs_is fate_is = inr (record {
   page = page;
   live = ap (page_among ((id, page) ∷ [])) (sym given) ∙ first_given id page [];
   leaves = record { path = path; cuts = cuts; chosen = chosen; part = part; there = found; fresh = fresh; free_after = free_after; free = some; next = refl };
@@ -50,10 +51,10 @@ splits_off meta line id held fresh free_after page path cuts part next given som
 
 pub puts_half : (line : Line) (rec : Record) (source fresh half : ℕ) (here : Bool) (page : LivePage) (next : Next) → line.command ≡ Insert rec → IsTrue here ↔ DirectlyHolds page rec.key →
     (IsTrue here → half ≡ source) → (¬ (IsTrue here) → half ≡ fresh) → NextIs next (at.SessionAwait line.number replies.Done 0) (Some (Put half rec)) [] fates.TakesEffect → PutsBy line source fresh page next
-puts_half line rec source fresh half here page next command test own_is else_is is = λ meta id first free halves.
+puts_half line rec source fresh half here page next command test own_is else_is is = λ rule meta id first free halves.
     let same : halves.rec ≡ rec = cc (sym halves.command ∙ command) in
     let among = subst (λ (o : Option LivePage). page_among (given_pages (at.SessionPut line source fresh) id page o) half ≡ page_among ((id, page) ∷ (fresh, halves.other) ∷ []) half) (sym halves.half) refl in
-    let puts : (there : LivePage) → (half ≡ source) ⊎ (half ≡ fresh) → page_among ((id, page) ∷ (fresh, halves.other) ∷ []) half ≡ Some there → DirectlyHolds there rec.key → PutsInHalf (given_sight meta (given_pages (at.SessionPut line source fresh) id page first) free) line source fresh (deed_for line next) = λ there either live holds. record {
+    let puts : (there : LivePage) → (half ≡ source) ⊎ (half ≡ fresh) → page_among ((id, page) ∷ (fresh, halves.other) ∷ []) half ≡ Some there → DirectlyHolds there rec.key → PutsInHalf (cutting_sight rule meta (given_pages (at.SessionPut line source fresh) id page first) free) line source fresh (deed_for line next) = λ there either live holds. record {
       rec = rec;
       command = command;
       half = half;
@@ -92,16 +93,16 @@ pub puts_by_view : (v : Page) (line : Line) (p : List ℕ) (source fresh half : 
 puts_by_view v line p source fresh half here next inserts point test own_is else_is is = so_both v (λ page. InsertsInto line page) (λ page. IsTrue here ↔ DirectlyHolds page p) (λ page. PutsBy line source fresh page next)
     (λ page h test. puts_half line h.rec source fresh half here page next h.command (subst (λ (p : List ℕ). IsTrue here ↔ DirectlyHolds page p) (point h.rec h.command) test) own_is else_is (is h.rec h.command)) inserts test
 
-pub asked_put : (state : Activity) (meta : Meta) (free : Option (ℕ × ℕ)) (id : ℕ) (page : LivePage) (first : Option LivePage) (next : Next) (line : Line) (source fresh : ℕ) → state ≡ at.SessionPut line source fresh → MayAsk state meta free id page first → PutsBy line source fresh page next →
-    PointRow state (given_sight meta (given_pages state id page first) free) id page (deed_of state next)
-asked_put state meta free id page first next line source fresh is asked puts =
-    subst (λ (a : Activity). PointRow a (given_sight meta (given_pages a id page first) free) id page (deed_of a next)) (sym is)
-    (puts meta id first free (subst (λ (a : Activity). MayAsk a meta free id page first) is asked))
+pub asked_put : (state : Activity) (rule : CutRule) (meta : Meta) (free : Option (ℕ × ℕ)) (id : ℕ) (page : LivePage) (first : Option LivePage) (next : Next) (line : Line) (source fresh : ℕ) → state ≡ at.SessionPut line source fresh → MayAsk state meta free id page first → PutsBy line source fresh page next →
+    PointRow state (cutting_sight rule meta (given_pages state id page first) free) id page (deed_of state next)
+asked_put state rule meta free id page first next line source fresh is asked puts =
+    subst (λ (a : Activity). PointRow a (cutting_sight rule meta (given_pages a id page first) free) id page (deed_of a next)) (sym is)
+    (puts rule meta id first free (subst (λ (a : Activity). MayAsk a meta free id page first) is asked))
 
 -- so does a put by a view
 pub asked_put_by_view : (v : Page) (state : Activity) (next : Next) (line : Line) (source fresh : ℕ) → state ≡ at.SessionPut line source fresh → IsLiveAnd v (λ page. PutsBy line source fresh page next) →
-    IsLiveAnd v (λ page. (meta : Meta) (free : Option (ℕ × ℕ)) (id : ℕ) (first : Option LivePage) → MayAsk state meta free id page first → PointRow state (given_sight meta (given_pages state id page first) free) id page (deed_of state next))
-asked_put_by_view v state next line source fresh is puts = so v (λ page. PutsBy line source fresh page next) _ (λ page by meta free id first asked. asked_put state meta free id page first next line source fresh is asked by) puts
+    IsLiveAnd v (λ page. (rule : CutRule) (meta : Meta) (free : Option (ℕ × ℕ)) (id : ℕ) (first : Option LivePage) → MayAsk state meta free id page first → PointRow state (cutting_sight rule meta (given_pages state id page first) free) id page (deed_of state next))
+asked_put_by_view v state next line source fresh is puts = so v (λ page. PutsBy line source fresh page next) _ (λ page by rule meta free id first asked. asked_put state rule meta free id page first next line source fresh is asked by) puts
 
 -- and the line of a session that puts inserts a record
 pub inserts_into : (v : Page) (state : Activity) (line : Line) (source fresh : ℕ) → state ≡ at.SessionPut line source fresh → IsLiveAnd v (MayPutThere state) → IsLiveAnd v (λ page. InsertsInto line page)

@@ -27,28 +27,29 @@ use Rattle.hb_point.specs.SplitRows.{PutsInHalf, SplitsOrFull}
 use Rattle.hb_point.proofs.Facts.RecordOps.{insert_of}
 use Rattle.hb_space.proofs.Facts.Intervals.{below_all, held, interval, top}
 use Rattle.hb_space.specs.Boxes.{Area, Holds}
-use Rattle.hb_split.specs.Choosing.{AreChosen, IsBest, IsChosen, MayCut, NotBehind, heavier_count}
+use Rattle.hb_split.specs.declared.rules.CutRule.{CutRule}
+use Rattle.hb_split.specs.Choosing.{AreChosen, GoesFirst, IsBest, IsChosenBy, MayCut}
 
 -- ---- the six records are cut at 40
 
--- no plane at the value of a record is before that one
-abbrev Behind : ℕ → Type 0
-Behind v = NotBehind (heavier_count 0 40 of_six) 0 40 (heavier_count 0 v of_six) 0 v
+-- Under either rule no plane at the value of a record is before that one: there is one attribute.
+abbrev Behind : CutRule → ℕ → Type 0
+Behind rule v = GoesFirst rule of_six 0 40 0 v
 
-at_value : (x r : Record) (v : ℕ) → x ≡ r → slice_index r.key 0 ≡ v → Behind (slice_index x.key 0) → Behind v
-at_value x r v is key behind = subst Behind (ap (λ (x : Record). slice_index x.key 0) is ∙ key) behind
+at_value : (rule : CutRule) (x r : Record) (v : ℕ) → x ≡ r → slice_index r.key 0 ≡ v → Behind rule (slice_index x.key 0) → Behind rule v
+at_value rule x r v is key behind = subst (Behind rule) (ap (λ (x : Record). slice_index x.key 0) is ∙ key) behind
 
-each_value : (v : ℕ) → Any (λ (r : Record). slice_index r.key 0 ≡ v) of_six → Behind v
-each_value v (zero, r, lt, is, key) = at_value (rec_at (10 ∷ []) 1) r v is key (inl (omega arith))
-each_value v (suc zero, r, lt, is, key) = at_value (rec_at (20 ∷ []) 2) r v is key (inl (omega arith))
-each_value v (suc (suc zero), r, lt, is, key) = at_value (rec_at (30 ∷ []) 3) r v is key (inl (omega arith))
-each_value v (suc (suc (suc zero)), r, lt, is, key) = at_value (rec_at (40 ∷ []) 4) r v is key (inr (refl, inr (refl, omega arith)))
-each_value v (suc (suc (suc (suc zero))), r, lt, is, key) = at_value (rec_at (50 ∷ []) 5) r v is key (inl (omega arith))
-each_value v (suc (suc (suc (suc (suc zero)))), r, lt, is, key) = at_value (rec_at (60 ∷ []) 6) r v is key (inl (omega arith))
-each_value v (suc (suc (suc (suc (suc (suc k))))), r, lt, is, key) = absurd (omega (arith, lt))
+each_value : (rule : CutRule) (v : ℕ) → Any (λ (r : Record). slice_index r.key 0 ≡ v) of_six → Behind rule v
+each_value rule v (zero, r, lt, is, key) = at_value rule (rec_at (10 ∷ []) 1) r v is key (inl (omega arith))
+each_value rule v (suc zero, r, lt, is, key) = at_value rule (rec_at (20 ∷ []) 2) r v is key (inl (omega arith))
+each_value rule v (suc (suc zero), r, lt, is, key) = at_value rule (rec_at (30 ∷ []) 3) r v is key (inl (omega arith))
+each_value rule v (suc (suc (suc zero)), r, lt, is, key) = at_value rule (rec_at (40 ∷ []) 4) r v is key (inr (refl, inr (refl, inr (refl, omega arith))))
+each_value rule v (suc (suc (suc (suc zero))), r, lt, is, key) = at_value rule (rec_at (50 ∷ []) 5) r v is key (inl (omega arith))
+each_value rule v (suc (suc (suc (suc (suc zero)))), r, lt, is, key) = at_value rule (rec_at (60 ∷ []) 6) r v is key (inl (omega arith))
+each_value rule v (suc (suc (suc (suc (suc (suc k))))), r, lt, is, key) = absurd (omega (arith, lt))
 
-best_of_six : IsBest 1 0 40 of_six
-best_of_six = record {
+best_of_six : (rule : CutRule) → IsBest rule 1 0 40 of_six
+best_of_six rule = record {
   may = record {
     attribute = omega arith;
     met = (3, rec_at (40 ∷ []) 4, omega arith, refl, refl);
@@ -57,20 +58,20 @@ best_of_six = record {
   first = λ axis value may. first axis value (omega (arith, may.attribute)) may;
 }
   where
-    first : (axis value : ℕ) → axis ≡ 0 → MayCut 1 axis value of_six → NotBehind (heavier_count 0 40 of_six) 0 40 (heavier_count axis value of_six) axis value
+    first : (axis value : ℕ) → axis ≡ 0 → MayCut 1 axis value of_six → GoesFirst rule of_six 0 40 axis value
     first axis value none may =
-        subst (λ (a : ℕ). NotBehind (heavier_count 0 40 of_six) 0 40 (heavier_count a value of_six) a value) (sym none)
-        (each_value value (subst (λ (a : ℕ). Any (λ (r : Record). slice_index r.key a ≡ value) of_six) none may.met))
+        subst (λ (a : ℕ). GoesFirst rule of_six 0 40 a value) (sym none)
+        (each_value rule value (subst (λ (a : ℕ). Any (λ (r : Record). slice_index r.key a ≡ value) of_six) none may.met))
 
-six_chosen : AreChosen 6 1 (at_forty ∷ []) six_records.frag
-six_chosen = (record { records = of_six; leaf = refl; heavy = omega arith; best = record { plane = best_of_six; side = refl } }, omega arith)
+six_chosen : (rule : CutRule) → AreChosen rule 6 1 (at_forty ∷ []) six_records.frag
+six_chosen rule = (record { records = of_six; leaf = refl; heavy = omega arith; best = record { plane = best_of_six rule; side = refl } }, omega arith)
 
-chosen_of_six : IsChosen six_records [] (at_forty ∷ [])
-chosen_of_six = record {
+chosen_of_six : (rule : CutRule) → IsChosenBy rule six_records [] (at_forty ∷ [])
+chosen_of_six rule = record {
   way = refl;
   part = (six_records.frag, six_records.area);
   found = refl;
-  chosen = six_chosen;
+  chosen = six_chosen rule;
 }
 
 -- ---- each row
@@ -84,13 +85,13 @@ module _ (s : Sight) (line : Line) where
     done = inr (record {
       page = six_records;
       live = live;
-      leaves = record { path = []; cuts = at_forty ∷ []; chosen = chosen_of_six; part = (six_records.frag, six_records.area); there = refl; fresh = 9; free_after = 4; free = omega (arith, used, pages); next = next };
+      leaves = record { path = []; cuts = at_forty ∷ []; chosen = chosen_of_six s.rule; part = (six_records.frag, six_records.area); there = refl; fresh = 9; free_after = 4; free = omega (arith, used, pages); next = next };
       deed_is = refl;
     });
     only = only;
   }
     where
-      leaving : (other : Deed) (leaves : PartLeavesTo s (IsChosen six_records) six_records) → other ≡ split_deed line leaves.path leaves.cuts leaves.fresh leaves.free_after (corner_of leaves) → other ≡ split_deed line [] (at_forty ∷ []) 9 4 (0 ∷ [])
+      leaving : (other : Deed) (leaves : PartLeavesTo s (IsChosenBy s.rule six_records) six_records) → other ≡ split_deed line leaves.path leaves.cuts leaves.fresh leaves.free_after (corner_of leaves) → other ≡ split_deed line [] (at_forty ∷ []) 9 4 (0 ∷ [])
       leaving other leaves is =
           let numbers : ◌≡◌ {A = ℕ × ℕ} (leaves.fresh, leaves.free_after) (9, 4) = same_Some (leaves.fresh, leaves.free_after) (9, 4) (sym leaves.next ∙ next) in
           let chosen = leaves.chosen in
@@ -98,7 +99,7 @@ module _ (s : Sight) (line : Line) where
           let path : leaves.path ≡ [] = chosen.way in
           let part : chosen.part ≡ whole = same_Some chosen.part whole (sym chosen.found ∙ ap (λ (w : List Side). part_at w six_records.frag six_records.area) path) in
           let there : leaves.part ≡ whole = same_Some leaves.part whole (sym leaves.there ∙ ap (λ (w : List Side). part_at w six_records.frag six_records.area) path) in
-          let cuts : leaves.cuts ≡ at_forty ∷ [] = one_choice 6 1 leaves.cuts (at_forty ∷ []) six_records.frag (subst (λ (q : Tree × Area). AreChosen 6 1 leaves.cuts q.0) part chosen.chosen) six_chosen in
+          let cuts : leaves.cuts ≡ at_forty ∷ [] = one_choice s.rule 6 1 leaves.cuts (at_forty ∷ []) six_records.frag (subst (λ (q : Tree × Area). AreChosen s.rule 6 1 leaves.cuts q.0) part chosen.chosen) (six_chosen s.rule) in
           is
           ∙ ap (λ w. split_deed line w leaves.cuts leaves.fresh leaves.free_after (corner_of leaves)) path
           ∙ ap (λ (n : ℕ × ℕ). split_deed line [] leaves.cuts n.0 n.1 (corner_of leaves)) numbers
@@ -109,8 +110,8 @@ module _ (s : Sight) (line : Line) where
       only other (inl row) = absurd (omega (arith, row.none_free, used, pages))
       only other (inr row) =
           let same = same_Some row.page six_records (sym row.live ∙ live) in
-          let both : (leaves : PartLeavesTo s (IsChosen six_records) six_records) × (other ≡ split_deed line leaves.path leaves.cuts leaves.fresh leaves.free_after (corner_of leaves)) =
-          subst (λ (page : LivePage). (leaves : PartLeavesTo s (IsChosen page) page) × (other ≡ split_deed line leaves.path leaves.cuts leaves.fresh leaves.free_after (corner_of leaves))) same (row.leaves, row.deed_is) in
+          let both : (leaves : PartLeavesTo s (IsChosenBy s.rule six_records) six_records) × (other ≡ split_deed line leaves.path leaves.cuts leaves.fresh leaves.free_after (corner_of leaves)) =
+          subst (λ (page : LivePage). (leaves : PartLeavesTo s (IsChosenBy s.rule page) page) × (other ≡ split_deed line leaves.path leaves.cuts leaves.fresh leaves.free_after (corner_of leaves))) same (row.leaves, row.deed_is) in
           leaving other both.0 both.1
 
   no_split : s.meta.live ≡ 9 → s.meta.pages ≡ 9 → IsOnly (SplitsOrFull s line 5) (answers_now line.number replies.Full)

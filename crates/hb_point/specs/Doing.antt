@@ -9,7 +9,8 @@ use Rattle.hb_set.specs.declared.commands.Command.TheVariants.{Insert, Delete, L
 use Rattle.hb_set.specs.declared.scripts.Line.{Line}
 use Rattle.hb_activity.specs.declared.activities.Activity.{Activity}
 use Rattle.hb_activity.specs.declared.activities.Activity.TheVariants as at
-use Rattle.hb_activity.specs.Deciding.{given_pages, given_sight}
+use Rattle.hb_split.specs.declared.rules.CutRule.{CutRule}
+use Rattle.hb_activity.specs.Deciding.{cutting_sight, given_pages, given_sight}
 use Rattle.hb_space.specs.Boxes.{Holds, Area}
 use Rattle.hb_space.specs.declared.records.Record.{Record}
 use Rattle.hb_frag.specs.declared.leaves.Leaf.TheVariants.{Records}
@@ -65,8 +66,8 @@ StandsIn page p (Some body) = (found : Record) × StandsThere page p found × (f
 
 -- An answer is the row that puts, whatever is given as the other half.
 abbrev pub PutsBy : Line → ℕ → ℕ → LivePage → Next → Type 0
-PutsBy line source fresh page next = (meta : Meta) (id : ℕ) (first : Option LivePage) (free : Option (ℕ × ℕ)) → HasHalves meta line source fresh id page first →
-    PutsInHalf (given_sight meta (given_pages (at.SessionPut line source fresh) id page first) free) line source fresh (deed_for line next)
+PutsBy line source fresh page next = (rule : CutRule) (meta : Meta) (id : ℕ) (first : Option LivePage) (free : Option (ℕ × ℕ)) → HasHalves meta line source fresh id page first →
+    PutsInHalf (cutting_sight rule meta (given_pages (at.SessionPut line source fresh) id page first) free) line source fresh (deed_for line next)
 
 -- the line inserts a record
 abbrev pub InsertsSome : Line → Type 0

@@ -13,14 +13,14 @@ use Rattle.hb_activity.specs.Deeds.{Deed, takes_effect, does, answers_now}
 use Rattle.hb_activity.specs.Sights.{Sight}
 use Rattle.hb_frag.specs.Leaves.{DirectlyHolds}
 use Rattle.hb_activity.specs.Passing.{HasNoPage, PartLeavesTo, corner_of}
-use Rattle.hb_split.specs.Choosing.{IsChosen}
+use Rattle.hb_split.specs.Choosing.{IsChosenBy}
 
 -- Splitting: where no page is free, the line is answered `full`. Else the chosen part leaves the page, and its box is a
 -- box that the parent owes a posting.
 pub record Splits (s : Sight) (line : Line) (held : ℕ) (deed : Deed) : Type 0 where
   pub page : LivePage
   pub live : s.page_at held ≡ Some page
-  pub leaves : PartLeavesTo s (IsChosen page) page
+  pub leaves : PartLeavesTo s (IsChosenBy s.rule page) page
   pub deed_is : deed ≡ does (SessionPut line held leaves.fresh) (Extract held leaves.fresh leaves.path leaves.cuts leaves.free_after)
       (record { kind = Post; level = 1; point = corner_of leaves } ∷ [])
 

@@ -1,7 +1,7 @@
 //! A full page is split.
 
 ghost use Rattle.std.specs.Prelude.{[], ◌∷◌, Some, IfOk, IsSome, OnErr};
-ghost use Rattle.hb_activity.specs.Deciding.{given_sight};
+ghost use Rattle.hb_activity.specs.Deciding.{cutting_sight};
 ghost use Rattle.hb_point.specs.Asks.{MustSplit, deed_for};
 ghost use Rattle.hb_point.specs.SplitRows.{SplitsOrFull};
 
@@ -9,12 +9,13 @@ use hb_activity::{Activity, Job, JobKind, Latched, Next, corner_of};
 use hb_ops::Op;
 use hb_set::{Line, Reply};
 use hb_space::NoMemory;
-use hb_split::{Extraction, choose};
+use hb_split::{CutRule, Extraction, choose_by};
 use std::alloc::Global;
 
 /// A split of the page. Where no page is free, the line is answered that it has no room.
 pub(crate) fn split(
     alloc: Global,
+    rule: CutRule,
     line: Line,
     held: u32,
     latched: Latched<'_>,
@@ -22,12 +23,12 @@ pub(crate) fn split(
 ) -> Result<Next, NoMemory>
     requires { MustSplit latched.meta.now free line held latched.id latched.page.now }
     ensures row { IfOk result (λ next. SplitsOrFull
-        (given_sight latched.entry.meta.now ((latched.entry.id, latched.entry.page.now) ∷ []) free) line held (deed_for line next)) }
+        (cutting_sight rule latched.entry.meta.now ((latched.entry.id, latched.entry.page.now) ∷ []) free) line held (deed_for line next)) }
     ensures memory { OnErr result (IsSome free) }
 {
     match free {
         None => Ok(Next::answers(Reply::Full)),
-        Some((fresh, free_after)) => part_off(alloc, line, held, latched, fresh, free_after),
+        Some((fresh, free_after)) => part_off(alloc, rule, line, held, latched, fresh, free_after),
     }
 }
 
@@ -35,6 +36,7 @@ pub(crate) fn split(
 #[tactic(auto, using(crate::proofs::AskedRows::splits_off))]
 fn part_off(
     alloc: Global,
+    rule: CutRule,
     line: Line,
     held: u32,
     latched: Latched<'_>,
@@ -43,9 +45,9 @@ fn part_off(
 ) -> Result<Next, NoMemory>
     requires { MustSplit latched.meta.now (Some (fresh, free_after)) line held latched.id latched.page.now }
     ensures { IfOk result (λ next. SplitsOrFull
-        (given_sight latched.entry.meta.now ((latched.entry.id, latched.entry.page.now) ∷ []) (Some (fresh, free_after))) line held (deed_for line next)) }
+        (cutting_sight rule latched.entry.meta.now ((latched.entry.id, latched.entry.page.now) ∷ []) (Some (fresh, free_after))) line held (deed_for line next)) }
 {
-    let Extraction { path, cuts } = choose(alloc, latched.page)?;
+    let Extraction { path, cuts } = choose_by(alloc, rule, latched.page)?;
     let job = Job {
         kind: JobKind::Post,
         level: 1,

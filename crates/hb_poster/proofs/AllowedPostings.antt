@@ -48,7 +48,7 @@ module _ (s : Sight) (id : ℕ) (page child : LivePage) (hand : ArePagesAtHand s
       let full = heavy_parent s.meta page child p hand.layout hand.above plan in
       let one = allocates s leaves.fresh leaves.free_after given leaves.free leaves.next in
       one_shown (IsAllowedAlone s id page) deed _ (ops.Extract id leaves.fresh leaves.path leaves.cuts leaves.free_after) row.deed_is refl
-      (record { reads = refl; allowed = chosen_fits s.meta page leaves.path leaves.cuts leaves.fresh leaves.free_after hand.above leaves.chosen full one })
+      (record { reads = refl; allowed = chosen_fits s.rule s.meta page leaves.path leaves.cuts leaves.fresh leaves.free_after hand.above leaves.chosen full one })
 
   -- what an operation posts
   abbrev OfChild : Op → Type 0

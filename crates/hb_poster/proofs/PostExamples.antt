@@ -25,7 +25,8 @@ use Rattle.hb_ops.specs.Cutting.{reached}
 use Rattle.hb_poster.specs.Examples.{LooksByHand, PostsByHand, SplitsParentsByHand, page_one, page_three, rec_of, six_children}
 use Rattle.hb_poster.specs.PosterRows.{DoesPlan, LooksAgain, LooksAtChild, after_look}
 use Rattle.hb_space.specs.Boxes.{Area}
-use Rattle.hb_split.specs.Choosing.{AreChosen, IsChosen}
+use Rattle.hb_split.specs.declared.rules.CutRule.{CutRule}
+use Rattle.hb_split.specs.Choosing.{AreChosen, IsChosenBy}
 use Rattle.hb_terms.proofs.Facts.Owing.{one_plan}
 use Rattle.hb_terms.specs.Plans.{IsPlan}
 use Rattle.hb_ops.specs.Owing.{posted_parent}
@@ -121,12 +122,12 @@ posts_by_hand s job = record {
 abbrev four_children : Tree × Area
 four_children = (Cut 0 200 (Cut 0 150 (Tip (Child 5)) (Tip (Child 6))) (Cut 0 300 (Tip (Child 7)) (Tip (Child 8))), record { lo = 100 ∷ []; hi = 18446744073709551615 ∷ [] })
 
-chosen_of_six : IsChosen six_children (Right ∷ []) []
-chosen_of_six = record { way = refl; part = four_children; found = refl; chosen = omega arith }
+chosen_of_six : (rule : CutRule) → IsChosenBy rule six_children (Right ∷ []) []
+chosen_of_six rule = record { way = refl; part = four_children; found = refl; chosen = omega arith }
 
-no_cuts : (cuts : List LeafCut) → AreChosen 6 1 cuts four_children.0 → cuts ≡ []
-no_cuts [] chosen = refl
-no_cuts (cut ∷ cuts) chosen = absurd (let heavy = chosen.0.heavy in let w : weight_of four_children.0 ≡ 4 = refl in omega (arith, heavy, w))
+no_cuts : (rule : CutRule) (cuts : List LeafCut) → AreChosen rule 6 1 cuts four_children.0 → cuts ≡ []
+no_cuts rule [] chosen = refl
+no_cuts rule (cut ∷ cuts) chosen = absurd (let heavy = chosen.0.heavy in let w : weight_of four_children.0 ≡ 4 = refl in omega (arith, heavy, w))
 
 abbrev split_deed : Job → List Side → List LeafCut → ℕ → ℕ → ℕ → List ℕ → Deed
 split_deed job path cuts fresh after level corner = does PosterIdle (ops.Extract 3 fresh path cuts after) (record { kind = Post; level = level; point = corner } ∷ job ∷ [])
@@ -135,20 +136,20 @@ module _ (s : Sight) (job : Job) where
   free_split : job.level ≡ 1 → s.meta.live ≡ 8 → s.meta.pages ≡ 9 → s.next ≡ Some (9, 0) → IsOnly (DoesPlan s job 3 six_children plans.SplitFirst) (split_deed job (Right ∷ []) [] 9 0 2 (100 ∷ []))
   free_split level used pages next = record {
     done = inr (record {
-      leaves = record { path = Right ∷ []; cuts = []; chosen = chosen_of_six; part = four_children; there = refl; fresh = 9; free_after = 0; free = omega (arith, used, pages); next = next };
+      leaves = record { path = Right ∷ []; cuts = []; chosen = chosen_of_six s.rule; part = four_children; there = refl; fresh = 9; free_after = 0; free = omega (arith, used, pages); next = next };
       deed_is = ap (λ n. split_deed job (Right ∷ []) [] 9 0 (n + 1) (100 ∷ [])) (sym level);
     });
     only = only;
   }
     where
-      leaving : (other : Deed) (leaves : PartLeavesTo s (IsChosen six_children) six_children) → other ≡ split_deed job leaves.path leaves.cuts leaves.fresh leaves.free_after (job.level + 1) (corner_of leaves) → other ≡ split_deed job (Right ∷ []) [] 9 0 2 (100 ∷ [])
+      leaving : (other : Deed) (leaves : PartLeavesTo s (IsChosenBy s.rule six_children) six_children) → other ≡ split_deed job leaves.path leaves.cuts leaves.fresh leaves.free_after (job.level + 1) (corner_of leaves) → other ≡ split_deed job (Right ∷ []) [] 9 0 2 (100 ∷ [])
       leaving other leaves is =
           let numbers : ◌≡◌ {A = ℕ × ℕ} (leaves.fresh, leaves.free_after) (9, 0) = same_Some (leaves.fresh, leaves.free_after) (9, 0) (sym leaves.next ∙ next) in
           let chosen = leaves.chosen in
           let path : leaves.path ≡ Right ∷ [] = chosen.way in
           let part : chosen.part ≡ four_children = same_Some chosen.part four_children (sym chosen.found ∙ ap (λ (w : List Side). part_at w six_children.frag six_children.area) path) in
           let there : leaves.part ≡ four_children = same_Some leaves.part four_children (sym leaves.there ∙ ap (λ (w : List Side). part_at w six_children.frag six_children.area) path) in
-          let cuts : leaves.cuts ≡ [] = no_cuts leaves.cuts (subst (λ (q : Tree × Area). AreChosen 6 1 leaves.cuts q.0) part chosen.chosen) in
+          let cuts : leaves.cuts ≡ [] = no_cuts s.rule leaves.cuts (subst (λ (q : Tree × Area). AreChosen s.rule 6 1 leaves.cuts q.0) part chosen.chosen) in
           is
           ∙ ap (λ w. split_deed job w leaves.cuts leaves.fresh leaves.free_after (job.level + 1) (corner_of leaves)) path
           ∙ ap (λ (n : ℕ × ℕ). split_deed job (Right ∷ []) leaves.cuts n.0 n.1 (job.level + 1) (corner_of leaves)) numbers

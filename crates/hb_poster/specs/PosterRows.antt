@@ -16,7 +16,7 @@ use Rattle.hb_activity.specs.Passing.{HasNoPage, PartLeavesTo, corner_of, Passes
 use Rattle.hb_activity.specs.Sights.{Sight}
 use Rattle.hb_frag.specs.Leaves.{leaf_at, siblings_of}
 use Rattle.hb_space.specs.Boxes.{Area}
-use Rattle.hb_split.specs.Choosing.{IsChosen}
+use Rattle.hb_split.specs.Choosing.{IsChosenBy}
 use Rattle.hb_terms.specs.Plans.{IsPlan}
 
 -- Idle: the poster takes the oldest job of its kind. A job above the file's height is dropped; one at the height is to give
@@ -77,7 +77,7 @@ pub record LooksAtChild (s : Sight) (job : Job) (parent : ℕ) (child : LivePage
 -- Looking again, with the parent alone: the plan is made anew. What it posts is posted, and the job waits again. Where the
 -- parent has no room, it is split first, which is posted one level up; where no page is free, the job is dropped.
 pub record SplitsParent (s : Sight) (job : Job) (parent : ℕ) (page : LivePage) (deed : Deed) : Type 0 where
-  pub leaves : PartLeavesTo s (IsChosen page) page
+  pub leaves : PartLeavesTo s (IsChosenBy s.rule page) page
   pub deed_is : deed ≡ does PosterIdle (ops.Extract parent leaves.fresh leaves.path leaves.cuts leaves.free_after)
       (record { kind = Post; level = job.level + 1; point = corner_of leaves } ∷ job ∷ [])
 

@@ -1,7 +1,7 @@
 ghost use Rattle.std.specs.Prelude.{◌≡◌, ◌<◌, ◌↔◌, IsTrue, IfOk, OnErr};
 ghost use Rattle.std.specs.Option.{option_copied};
 ghost use Rattle.hb_ops.specs.Sound.{FitsFile};
-ghost use Rattle.hb_activity.specs.Deciding.{FitsFree, deed_of, given_pages, given_sight};
+ghost use Rattle.hb_activity.specs.Deciding.{FitsFree, cutting_sight, deed_of, given_pages};
 ghost use Rattle.hb_activity.specs.Sights.{Sight};
 ghost use Rattle.hb_poster.specs.Asks.{AsksMemory, IsAskedOf, MakesPage, MayBeAsked, OnlyMovesOn};
 ghost use Rattle.hb_poster.specs.PosterRows.{PosterRow};
@@ -14,6 +14,7 @@ use hb_activity::{Activity, Latched, Next};
 use hb_frag::LivePage;
 use hb_layout::Meta;
 use hb_space::NoMemory;
+use hb_split::CutRule;
 use hb_view::PageView;
 use std::alloc::Global;
 
@@ -21,13 +22,14 @@ use std::alloc::Global;
 /// child, or the parent that is promoted. `first` is the parent, where the page is a child. `free` is
 /// the number that a made page takes, with the free head afterwards:
 /// `None` exactly where no page is free. It is read only where a page is to be made, which
-/// `needs_number` tells; elsewhere anything may be given.
+/// `needs_number` tells; elsewhere anything may be given. A parent that is split is cut by `rule`.
 ///
 /// # Errors
 ///
 /// Memory was refused. It is wanted only where a posting or a split is planned.
 pub fn next(
     alloc: Global,
+    rule: CutRule,
     state: Activity,
     latched: Latched<'_>,
     first: Option<&LivePage>,
@@ -36,7 +38,7 @@ pub fn next(
     requires asked { MayBeAsked state latched.meta.now latched.page.now (option_copied first) }
     requires free { MakesPage state latched.meta.now latched.page.now (option_copied first) → FitsFree latched.meta.now free }
     ensures row { IfOk result (λ next. PosterRow state
-        (given_sight latched.entry.meta.now (given_pages state latched.entry.id latched.entry.page.now (option_copied first.entry)) free)
+        (cutting_sight rule latched.entry.meta.now (given_pages state latched.entry.id latched.entry.page.now (option_copied first.entry)) free)
         latched.entry.id latched.entry.page.now (deed_of state next)) }
     ensures memory { OnErr result (AsksMemory state latched.entry.meta.now latched.entry.page.now (option_copied first.entry) free) }
 {
@@ -51,7 +53,7 @@ pub fn next(
             None => unreachable!(),
         },
         Activity::PosterAgain { job, parent } => match first {
-            Some(over) => look_again(alloc, job, parent, over, latched, free),
+            Some(over) => look_again(alloc, rule, job, parent, over, latched, free),
             None => unreachable!(),
         },
         _ => unreachable!(),

@@ -4,7 +4,8 @@ ghost use Rattle.std.specs.Prelude.{◌≢◌, ◌↔◌, ℕ, List, [], None, I
 ghost use Rattle.hb_space.specs.Boxes.{Area as Extent};
 ghost use Rattle.hb_frag.specs.Leaves.{leaves_of, siblings, siblings_of};
 ghost use Rattle.hb_frag.specs.declared.pages.LivePage.{LivePage as OnePage};
-ghost use Rattle.hb_activity.specs.Deciding.{FitsFree, deed_of, given_sight};
+ghost use Rattle.hb_split.specs.declared.rules.CutRule.{CutRule as Rule};
+ghost use Rattle.hb_activity.specs.Deciding.{FitsFree, cutting_sight, deed_of, given_sight};
 ghost use Rattle.hb_poster.specs.PosterRows.{MayGrow, PosterRow};
 
 use hb_activity::{Activity, Job, Latched, Next};
@@ -17,8 +18,8 @@ use hb_ops::Op;
 /// waits again. Else the job is dropped.
 pub(crate) fn grow(job: Job, root: Latched<'_>, free: Option<(u32, u32)>) -> Next
     requires { MayGrow (given_sight root.meta.now [] None) job root.page.now → FitsFree root.meta.now free }
-    ensures { (pages : List (ℕ × OnePage)) → PosterRow (Activity.PosterGrow job)
-        (given_sight root.entry.meta.now pages free) root.entry.id root.entry.page.now (deed_of (Activity.PosterGrow job) result) }
+    ensures { (rule : Rule) (pages : List (ℕ × OnePage)) → PosterRow (Activity.PosterGrow job)
+        (cutting_sight rule root.entry.meta.now pages free) root.entry.id root.entry.page.now (deed_of (Activity.PosterGrow job) result) }
 {
     if !may_grow(&job, root.page, root.meta) {
         return Next::moves(Activity::PosterIdle);

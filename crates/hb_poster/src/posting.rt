@@ -3,7 +3,8 @@
 ghost use Rattle.std.specs.Prelude.{◌≡◌, ◌<◌, ◌≤◌, ◌^◌, ◌↔◌, [], ◌∷◌, ℕ, Option, Some, IfOk, IsTrue, OnErr};
 ghost use Rattle.hb_frag.specs.Leaves.{weight_of, WellCut};
 ghost use Rattle.hb_frag.specs.Rules.{AreInOrder};
-ghost use Rattle.hb_activity.specs.Deciding.{FitsFree, deed_of, given_sight};
+ghost use Rattle.hb_split.specs.declared.rules.CutRule.{CutRule as Rule};
+ghost use Rattle.hb_activity.specs.Deciding.{FitsFree, cutting_sight, deed_of};
 ghost use Rattle.hb_activity.specs.Sights.{Sight};
 ghost use Rattle.hb_poster.specs.Asks.{AsksMemory, LooksAgainBelow, LooksBelow, PlansPosting};
 ghost use Rattle.hb_poster.specs.PosterRows.{PosterRow, SplitsParent};
@@ -16,7 +17,7 @@ use hb_frag::LivePage;
 use hb_layout::Meta;
 use hb_ops::Op;
 use hb_space::NoMemory;
-use hb_split::choose;
+use hb_split::{CutRule, choose_by};
 use hb_terms::{PostPlan, post_plan};
 use std::alloc::Global;
 
@@ -30,8 +31,8 @@ pub(crate) fn look(
     child: Latched<'_>,
 ) -> Result<Next, NoMemory>
     requires { LooksBelow child.meta.now job over.now child.page.now }
-    ensures row { (free : Option (ℕ × ℕ)) → IfOk result (λ next. PosterRow (Activity.PosterChild job parent)
-        (given_sight child.entry.meta.now ((parent, over.now) ∷ (child.entry.id, child.entry.page.now) ∷ []) free)
+    ensures row { (rule : Rule) (free : Option (ℕ × ℕ)) → IfOk result (λ next. PosterRow (Activity.PosterChild job parent)
+        (cutting_sight rule child.entry.meta.now ((parent, over.now) ∷ (child.entry.id, child.entry.page.now) ∷ []) free)
         child.entry.id child.entry.page.now (deed_of (Activity.PosterChild job parent) next)) }
     ensures memory { OnErr result (PlansPosting child.entry.meta.now job over.now child.entry.page.now) }
 {
@@ -46,6 +47,7 @@ pub(crate) fn look(
 /// What a look at the child again comes to, with the parent alone.
 pub(crate) fn look_again(
     alloc: Global,
+    rule: CutRule,
     job: Job,
     parent: u32,
     over: &LivePage,
@@ -55,7 +57,7 @@ pub(crate) fn look_again(
     requires both { LooksAgainBelow child.meta.now job over.now child.page.now }
     requires free { LacksRoom over.now child.page.now job.point child.meta.now.icap → FitsFree child.meta.now free }
     ensures row { IfOk result (λ next. PosterRow (Activity.PosterAgain job parent)
-        (given_sight child.entry.meta.now ((parent, over.now) ∷ (child.entry.id, child.entry.page.now) ∷ []) free)
+        (cutting_sight rule child.entry.meta.now ((parent, over.now) ∷ (child.entry.id, child.entry.page.now) ∷ []) free)
         child.entry.id child.entry.page.now (deed_of (Activity.PosterAgain job parent) next)) }
     ensures memory { OnErr result (AsksMemory (Activity.PosterAgain job parent) child.entry.meta.now child.entry.page.now (Some over.now) free) }
 {
@@ -71,7 +73,7 @@ pub(crate) fn look_again(
             Ok(Next::does(Activity::PosterIdle, op, job))
         }
         PostPlan::SplitFirst => match free {
-            Some((fresh, free_after)) => split(alloc, job, parent, over, fresh, free_after),
+            Some((fresh, free_after)) => split(alloc, rule, job, parent, over, fresh, free_after),
             None => Ok(Next::moves(Activity::PosterIdle)),
         },
     }
@@ -117,6 +119,7 @@ fn plan_for(
 // and this job waits again behind it.
 fn split(
     alloc: Global,
+    rule: CutRule,
     job: Job,
     parent: u32,
     over: &LivePage,
@@ -128,10 +131,10 @@ fn split(
     requires full { 6 ≤ weight_of over.now.frag }
     requires bounded { weight_of over.now.frag < 2 ^ 32 }
     requires low { job.level < 255 }
-    ensures { IfOk result (λ next. (s : Sight) → s.meta.live < s.meta.pages → s.next ≡ Some (fresh, free_after) →
+    ensures { IfOk result (λ next. (s : Sight) → s.rule ≡ rule → s.meta.live < s.meta.pages → s.next ≡ Some (fresh, free_after) →
         SplitsParent s job parent over.now (deed_of (Activity.PosterAgain job parent) next)) }
 {
-    let part = choose(alloc, over)?;
+    let part = choose_by(alloc, rule, over)?;
     let owed = Job {
         kind: JobKind::Post,
         level: job.level + 1,

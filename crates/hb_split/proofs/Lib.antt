@@ -2,6 +2,7 @@ pub mod Facts
 pub mod WaysDown
 pub mod Thirds
 pub mod Better
+pub mod Extents
 pub mod Values
 pub mod Nexts
 pub mod Centers

@@ -16,6 +16,7 @@ use Rattle.hb_frag.specs.Rules.{Precedes}
 use Rattle.hb_ops.specs.Cutting.{is_on}
 use Rattle.hb_ops.specs.declared.leaf_cuts.LeafCut.{LeafCut}
 use Rattle.hb_split.specs.declared.planes.Candidate.{Candidate}
+use Rattle.hb_split.specs.declared.rules.CutRule.{CutRule}
 use Rattle.hb_split.specs.Choosing.{MayCut, count_on}
 use Rattle.hb_split.specs.Steps.{AreOf, BestOf, IsNextCut, AddsCuts}
 use Rattle.hb_split.proofs.Thirds.{both}
@@ -35,8 +36,8 @@ fewer : (k axis value : ℕ) (records : List Record) → MayCut k axis value rec
 fewer k axis value records m Left = let all = both axis value records in let other = parts k axis value records m Right in omega (arith, all, other)
 fewer k axis value records m Right = let all = both axis value records in let other = parts k axis value records m Left in omega (arith, all, other)
 
-pub next_of : (k : ℕ) (records : List Record) (c : Candidate) → AreOf k records → BestOf k records (Some c) → IsNextCut k records c.cut
-next_of k records c a b =
+pub next_of : (rule : CutRule) (k : ℕ) (records : List Record) (c : Candidate) → AreOf k records → BestOf rule k records (Some c) → IsNextCut rule k records c.cut
+next_of rule k records c a b =
     let on = is_on c.cut.side c.cut.axis c.cut.value in
     let lt = b.0.may.attribute in
     record {
@@ -71,10 +72,10 @@ differs (x ∷ xs) (y ∷ ys) same e = elim (cases_lt x y) [
   ]
 ]
 
-pub some_plane : (k : ℕ) (records : List Record) → 2 ≤ length records → AreOf k records → BestOf k records None → ⊥
-some_plane k [] two a none = absurd (omega (arith, two))
-some_plane k (r ∷ []) two a none = absurd (omega (arith, two))
-some_plane k (r ∷ s ∷ rest) two a none =
+pub some_plane : (rule : CutRule) (k : ℕ) (records : List Record) → 2 ≤ length records → AreOf k records → BestOf rule k records None → ⊥
+some_plane rule k [] two a none = absurd (omega (arith, two))
+some_plane rule k (r ∷ []) two a none = absurd (omega (arith, two))
+some_plane rule k (r ∷ s ∷ rest) two a none =
     let er = a.attributes 0 r (omega arith) in
     let es = a.attributes 1 r (omega arith) in
     let d = differs r.key s.key (er ∙ sym es) (a.rising 0 1 r (omega arith) (omega arith)) in
@@ -82,15 +83,15 @@ some_plane k (r ∷ s ∷ rest) two a none =
     none d.0 (get_or s.key d.0 0) (record { attribute = omega (arith, lt, er); met = (1, s, omega arith, refl, refl); exceeds = (0, r, omega arith, refl, d.2) })
 
 -- when all attributes are done
-pub ended : (k j : ℕ) (records : List Record) (best r : Option Candidate) → k ≤ j → j ≤ k → BestOf j records best → best ≡ r → BestOf k records r
-ended k j records best r le ge b e = subst (BestOf k records) e (subst (λ (x : ℕ). BestOf x records best) (omega (arith, le, ge)) b)
+pub ended : (rule : CutRule) (k j : ℕ) (records : List Record) (best r : Option Candidate) → k ≤ j → j ≤ k → BestOf rule j records best → best ≡ r → BestOf rule k records r
+ended rule k j records best r le ge b e = subst (BestOf rule k records) e (subst (λ (x : ℕ). BestOf rule x records best) (omega (arith, le, ge)) b)
 
-pub adds_none : (n k : ℕ) (records : List Record) (old : List LeafCut) → 6 ≤ n → 3 * length records ≤ 2 * n → AddsCuts n k records old old
-adds_none n k records old full light = ([], sym (append-nil old), omega (arith, full, light))
+pub adds_none : (rule : CutRule) (n k : ℕ) (records : List Record) (old : List LeafCut) → 6 ≤ n → 3 * length records ≤ 2 * n → AddsCuts rule n k records old old
+adds_none rule n k records old full light = ([], sym (append-nil old), omega (arith, full, light))
 
-pub adds_one : (n k : ℕ) (records : List Record) (cut : LeafCut) (old new : List LeafCut) → 6 ≤ n → 2 * n < 3 * length records → IsNextCut k records cut
-    → AddsCuts n k (filter (is_on cut.side cut.axis cut.value) records) (old ++ cut ∷ []) new → AddsCuts n k records old new
-adds_one n k records cut old new full heavy next rest = (
+pub adds_one : (rule : CutRule) (n k : ℕ) (records : List Record) (cut : LeafCut) (old new : List LeafCut) → 6 ≤ n → 2 * n < 3 * length records → IsNextCut rule k records cut
+    → AddsCuts rule n k (filter (is_on cut.side cut.axis cut.value) records) (old ++ cut ∷ []) new → AddsCuts rule n k records old new
+adds_one rule n k records cut old new full heavy next rest = (
   cut ∷ rest.0,
   rest.1 ∙ append_assoc old (cut ∷ []) rest.0,
   (record { records = records; leaf = refl; heavy = omega (arith, heavy); best = next.best }, rest.2),

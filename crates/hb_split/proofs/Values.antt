@@ -9,8 +9,11 @@ use Rattle.hb_space.specs.declared.records.Record.{Record}
 use Rattle.hb_frag.specs.declared.paths.Side.TheVariants.{Left, Right}
 use Rattle.hb_ops.specs.Cutting.{is_on}
 use Rattle.hb_split.specs.declared.planes.Candidate.{Candidate}
-use Rattle.hb_split.specs.Choosing.{MayCut, NotBehind, heavier_side, heavier_count, count_on, fuller_side}
-use Rattle.hb_split.specs.Steps.{IsBestOn, AreValues, IsStep, heavier_at, BestStep}
+use Rattle.hb_split.specs.declared.rules.CutRule.{CutRule}
+use Rattle.hb_split.specs.declared.rules.CutRule.TheVariants.{Least, Wide}
+use Rattle.hb_split.specs.Choosing.{MayCut, GoesFirst, heavier_side, heavier_count, count_on, extent, fuller_side, preference}
+use Rattle.hb_split.specs.Steps.{IsBestOn, AreValues, IsStep, heavier_at, BestStep, preference_of}
+use Rattle.hb_split.proofs.Extents.{between}
 use Rattle.hb_split.proofs.Thirds.{both}
 
 abbrev below : ℕ → List ℕ → ℕ
@@ -130,6 +133,24 @@ module _ (axis : ℕ) (records : List Record) (values : List ℕ) (a : AreValues
   heavier : (at : ℕ) → IsStep values at → heavier_count axis (get_or values at 0) records ≡ heavier_at values at
   heavier at s = let c = counts at s in ap (λ (x : ℕ). max x (count_on Right axis (get_or values at 0) records)) c.0 ∙ ap (λ (x : ℕ). max at x) c.1
 
+  -- the values end where those of the records do
+  placed : (i : ℕ) (d : Record) → i < length records → (j : ℕ) × (j < length values) × (get_or values j 0 ≡ key_of axis (get_or records i d))
+  placed i d lt = among i (get_or records i d) lt (get_or_default records i (get_or records i d) d lt)
+
+  ends : 0 < length values → extent axis records ≡ get_or values (length values - 1) 0 - get_or values 0 0
+  ends some =
+      let last = length values - 1 in
+      let low = holder 0 some in
+      let high = holder last (omega (arith, some)) in
+      between axis (get_or values 0 0) (get_or values last 0) records
+      (λ i d lt. let at = placed i d lt in let up = rises 0 at.0 (omega arith) at.1 in let e = at.2 in omega (arith, up, e))
+      (λ i d lt. let at = placed i d lt in let inside = at.1 in let up = rises at.0 last (omega (arith, inside)) (omega (arith, some)) in let e = at.2 in omega (arith, up, e))
+      low.0 low.1 low.2 low.3 low.4 high.0 high.1 high.2 high.3 high.4
+
+  prefers : (rule : CutRule) → 0 < length values → preference_of rule values ≡ preference rule axis records
+  prefers Least some = refl
+  prefers Wide some = sym (ends some)
+
   -- a plane that may cut is a step
   stepped : (v : ℕ) → MayCut (axis + 1) axis v records → (at : ℕ) × IsStep values at × (get_or values at 0 ≡ v)
   stepped v m =
@@ -152,9 +173,10 @@ module _ (axis : ℕ) (records : List Record) (values : List ℕ) (a : AreValues
   pub no_plane : BestStep values (length values) None → (v : ℕ) → ¬ (MayCut (axis + 1) axis v records)
   no_plane none v m = let s = stepped v m in none s.0 s.1.inside s.1
 
-  pub best_plane : (at : ℕ) (c : Candidate) → BestStep values (length values) (Some at) → c.cut.axis ≡ axis → c.cut.value ≡ get_or values at 0 → c.cut.side ≡ heavier_side at (length values - at) → c.count ≡ heavier_at values at → IsBestOn axis records c
-  best_plane at c b ea ev es ec =
+  pub best_plane : (rule : CutRule) (at : ℕ) (c : Candidate) → BestStep values (length values) (Some at) → c.cut.axis ≡ axis → c.cut.value ≡ get_or values at 0 → c.cut.side ≡ heavier_side at (length values - at) → c.count ≡ heavier_at values at → c.preference ≡ preference_of rule values → IsBestOn rule axis records c
+  best_plane rule at c b ea ev es ec ep =
       let step = b.1 in
+      let inside = step.inside in
       let own = counts at step in
       let plane : ℕ → ℕ → Type 0 = λ x y. (c.count ≡ heavier_count x y records) × (c.cut.side ≡ fuller_side x y records) in
       let told : plane axis (get_or values at 0) = (ec ∙ sym (heavier at step), es ∙ ap (λ (x : ℕ). heavier_side x (length values - at)) (sym own.0) ∙ ap (λ (x : ℕ). heavier_side (count_on Left axis (get_or values at 0) records) x) (sym own.1)) in
@@ -167,21 +189,21 @@ module _ (axis : ℕ) (records : List Record) (values : List ℕ) (a : AreValues
             let h = heavier at step in
             let h' = heavier s.0 s.1 in
             let up = rises at s.0 in
-            subst (λ (y : ℕ). NotBehind (heavier_count axis y records) axis y (heavier_count axis v records) axis v) (sym ev)
-            (subst (λ (y : ℕ). NotBehind (heavier_count axis (get_or values at 0) records) axis (get_or values at 0) (heavier_count axis y records) axis y) s.2
+            subst (λ (y : ℕ). GoesFirst rule records axis y axis v) (sym ev)
+            (subst (λ (y : ℕ). GoesFirst rule records axis (get_or values at 0) axis y) s.2
             (elim (b.2 s.0 s.1.inside s.1) [
               | inl lt ↦ inl (omega (arith, h, h', lt))
-              | inr same ↦ let e = same.0 in inr (omega (arith, h, h', e), inr (refl, up same.1 s.1.inside))
+              | inr same ↦ let e = same.0 in inr (omega (arith, h, h', e), inr (refl, inr (refl, up same.1 s.1.inside)))
             ]));
-        told = record { count = told'.0; side = told'.1 };
+        told = record { count = told'.0; side = told'.1; preferred = subst (λ (x : ℕ). c.preference ≡ preference rule x records) (sym ea) (ep ∙ prefers rule (omega (arith, inside))) };
       }
 
 -- the same along the facts of the calls
 pub no_plane_at : (axis : ℕ) (records : List Record) (values values' : List ℕ) (r : Option ℕ) → AreValues axis records values → values' ≡ values → BestStep values' (length values') r → r ≡ None → (v : ℕ) → ¬ (MayCut (axis + 1) axis v records)
 no_plane_at axis records values values' r a e b er = no_plane axis records values' (subst (AreValues axis records) (sym e) a) (subst (BestStep values' (length values')) er b)
 
-pub best_plane_at : (axis : ℕ) (records : List Record) (values values' values'' : List ℕ) (r : Option ℕ) (at : ℕ) (c : Candidate) → AreValues axis records values → values' ≡ values → values'' ≡ values → BestStep values' (length values') r → r ≡ Some at
-    → c.cut.axis ≡ axis → c.cut.value ≡ get_or values'' at 0 → c.cut.side ≡ heavier_side at (length values'' - at) → c.count ≡ heavier_at values'' at → IsBestOn axis records c
-best_plane_at axis records values values' values'' r at c a e e' b er =
+pub best_plane_at : (rule : CutRule) (axis : ℕ) (records : List Record) (values values' values'' : List ℕ) (r : Option ℕ) (at : ℕ) (c : Candidate) → AreValues axis records values → values' ≡ values → values'' ≡ values → BestStep values' (length values') r → r ≡ Some at
+    → c.cut.axis ≡ axis → c.cut.value ≡ get_or values'' at 0 → c.cut.side ≡ heavier_side at (length values'' - at) → c.count ≡ heavier_at values'' at → c.preference ≡ preference_of rule values'' → IsBestOn rule axis records c
+best_plane_at rule axis records values values' values'' r at c a e e' b er =
     let f : values' ≡ values'' = e ∙ sym e' in
-    best_plane axis records values'' (subst (AreValues axis records) (sym e') a) at c (subst (λ (x : List ℕ). BestStep x (length x) (Some at)) f (subst (BestStep values' (length values')) er b))
+    best_plane axis records values'' (subst (AreValues axis records) (sym e') a) rule at c (subst (λ (x : List ℕ). BestStep x (length x) (Some at)) f (subst (BestStep values' (length values')) er b))

@@ -1,5 +1,5 @@
 -- Which part leaves a full page, what the parts of the choice say to each other, and what contracts say of an extraction.
-use Rattle.std.specs.Prelude.{◌≡◌, ℕ, ◌+◌, ◌*◌, ◌<◌, ◌≤◌, ◌⊎◌, max, Bool, nat_lt, if◌then◌else◌, List, [], ◌∷◌, length, filter, slice_index, Any, Some}
+use Rattle.std.specs.Prelude.{◌≡◌, ℕ, ◌+◌, ◌*◌, ◌<◌, ◌≤◌, ◌⊎◌, ◌-◌, max, min, Bool, nat_lt, if◌then◌else◌, List, [], ◌∷◌, length, filter, slice_index, Any, Some}
 use Rattle.hb_space.specs.Boxes.{Area}
 use Rattle.hb_space.specs.declared.records.Record.{Record}
 use Rattle.hb_frag.specs.declared.leaves.Leaf.TheVariants.{Records}
@@ -12,6 +12,8 @@ use Rattle.hb_frag.specs.Paths.{part_at, StaysInside}
 use Rattle.hb_ops.specs.Cutting.{is_on, going, reached}
 use Rattle.hb_ops.specs.Extracting.{FitsPart}
 use Rattle.hb_ops.specs.declared.leaf_cuts.LeafCut.{LeafCut}
+use Rattle.hb_split.specs.declared.rules.CutRule.{CutRule}
+use Rattle.hb_split.specs.declared.rules.CutRule.TheVariants.{Least, Wide}
 
 -- the heavier side of two, the left one where both weigh the same
 abbrev pub heavier_side : ℕ → ℕ → Side
@@ -45,39 +47,70 @@ pub record MayCut (k axis value : ℕ) (records : List Record) : Type 0 where
   pub met : Any (λ r. slice_index r.key axis ≡ value) records
   pub exceeds : Any (λ r. slice_index r.key axis < value) records
 
--- one plane isn't behind another: its heavier side is lighter, or as heavy and its axis less, or that too and its value at most the other's
-abbrev pub NotBehind : ℕ → ℕ → ℕ → ℕ → ℕ → ℕ → Type 0
-NotBehind count axis value count' axis' value' = (count < count') ⊎ ((count ≡ count') × ((axis < axis') ⊎ ((axis ≡ axis') × (value ≤ value'))))
+-- the greatest of the records' values of an attribute
+abbrev pub greatest_in : ℕ → List Record → ℕ
+greatest_in axis [] = 0
+greatest_in axis (r ∷ rest) = max (slice_index r.key axis) (greatest_in axis rest)
+
+-- the least of a value and the records' values of an attribute
+abbrev pub least_with : ℕ → ℕ → List Record → ℕ
+least_with axis value [] = value
+least_with axis value (r ∷ rest) = min (slice_index r.key axis) (least_with axis value rest)
+
+-- how far the records extend in an attribute: their greatest value less their least one
+abbrev pub extent : ℕ → List Record → ℕ
+extent axis [] = 0
+extent axis (r ∷ rest) = greatest_in axis (r ∷ rest) - least_with axis (slice_index r.key axis) rest
+
+-- What an attribute is preferred by, of those whose planes have heavier sides of one weight: under the one rule by nothing,
+-- under the other by how far the records extend in it.
+abbrev pub preference : CutRule → ℕ → List Record → ℕ
+preference Least axis records = 0
+preference Wide axis records = extent axis records
+
+-- One plane isn't behind another: its heavier side is lighter. Or as heavy, and its attribute is preferred. Or as much, and
+-- its axis is less, or that too and its value at most the other's.
+abbrev pub NotBehind : ℕ → ℕ → ℕ → ℕ → ℕ → ℕ → ℕ → ℕ → Type 0
+NotBehind count preferred axis value count' preferred' axis' value' = (count < count')
+    ⊎ ((count ≡ count') × ((preferred' < preferred) ⊎ ((preferred ≡ preferred') × ((axis < axis') ⊎ ((axis ≡ axis') × (value ≤ value'))))))
+
+-- the same, of two planes of these records
+abbrev pub GoesFirst : CutRule → List Record → ℕ → ℕ → ℕ → ℕ → Type 0
+GoesFirst rule records axis value axis' value' = NotBehind (heavier_count axis value records) (preference rule axis records) axis value
+    (heavier_count axis' value' records) (preference rule axis' records) axis' value'
 
 -- the first of the planes that may cut
-pub record IsBest (k axis value : ℕ) (records : List Record) : Type 0 where
+pub record IsBest (rule : CutRule) (k axis value : ℕ) (records : List Record) : Type 0 where
   pub may : MayCut k axis value records
-  pub first : (axis' value' : ℕ) → MayCut k axis' value' records
-      → NotBehind (heavier_count axis value records) axis value (heavier_count axis' value' records) axis' value'
+  pub first : (axis' value' : ℕ) → MayCut k axis' value' records → GoesFirst rule records axis value axis' value'
 
 -- a cut of the records at the best plane, to its fuller side
-pub record IsBestCut (k : ℕ) (records : List Record) (cut : LeafCut) : Type 0 where
-  pub plane : IsBest k cut.axis cut.value records
+pub record IsBestCut (rule : CutRule) (k : ℕ) (records : List Record) (cut : LeafCut) : Type 0 where
+  pub plane : IsBest rule k cut.axis cut.value records
   pub side : cut.side ≡ fuller_side cut.axis cut.value records
 
 -- a cut of a records leaf that has more than two thirds
-pub record Chooses (n k : ℕ) (cut : LeafCut) (tree : Tree) : Type 0 where
+pub record Chooses (rule : CutRule) (n k : ℕ) (cut : LeafCut) (tree : Tree) : Type 0 where
   pub records : List Record
   pub leaf : tree ≡ Tip (Records records)
   pub heavy : 2 * n < 3 * weight_of tree
-  pub best : IsBestCut k records cut
+  pub best : IsBestCut rule k records cut
 
 -- Each cut is chosen of what the ones before it left, and at their end nothing is heavy.
-abbrev pub AreChosen : ℕ → ℕ → List LeafCut → Tree → Type 0
-AreChosen n k [] tree = 3 * weight_of tree ≤ 2 * n
-AreChosen n k (cut ∷ cuts) tree = Chooses n k cut tree × AreChosen n k cuts (going cut tree)
+abbrev pub AreChosen : CutRule → ℕ → ℕ → List LeafCut → Tree → Type 0
+AreChosen rule n k [] tree = 3 * weight_of tree ≤ 2 * n
+AreChosen rule n k (cut ∷ cuts) tree = Chooses rule n k cut tree × AreChosen rule n k cuts (going cut tree)
 
--- the extraction of a page
-pub record IsChosen (page : LivePage) (path : List Side) (cuts : List LeafCut) : Type 0 where
+-- the extraction of a page under a rule
+pub record IsChosenBy (rule : CutRule) (page : LivePage) (path : List Side) (cuts : List LeafCut) : Type 0 where
   pub way : path ≡ way_down (weight_of page.frag) page.frag
   pub part : Tree × Area
   pub found : part_at path page.frag page.area ≡ Some part
-  pub chosen : AreChosen (weight_of page.frag) (length page.area.lo) cuts part.0
+  pub chosen : AreChosen rule (weight_of page.frag) (length page.area.lo) cuts part.0
+
+-- the extraction of a page under the papers' rule: of equal attributes the least
+abbrev pub IsChosen : LivePage → List Side → List LeafCut → Type 0
+IsChosen page path cuts = IsChosenBy Least page path cuts
 
 -- The part that leaves has more than one third of the page's weight, and at most two thirds.
 pub record IsThirds (page : LivePage) (path : List Side) (cuts : List LeafCut) : Type 0 where

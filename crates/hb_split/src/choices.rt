@@ -1,9 +1,10 @@
 ghost use Rattle.std.specs.Prelude.{◌<◌, ◌≤◌, ◌^◌, length, IfOk};
 ghost use Rattle.hb_frag.specs.Leaves.{weight_of, WellCut};
 ghost use Rattle.hb_frag.specs.Rules.{AreInOrder};
-ghost use Rattle.hb_split.specs.Choosing.{IsChosen, IsThirds, MayLeave};
+ghost use Rattle.hb_split.specs.Choosing.{IsChosen, IsChosenBy, IsThirds, MayLeave};
 
 use crate::parting::cuts_at;
+use crate::rules::CutRule;
 use crate::ways::way_down;
 use hb_frag::{LivePage, Path};
 use hb_ops::Cuts;
@@ -38,8 +39,26 @@ pub fn choose(alloc: Global, page: &LivePage) -> Result<Extraction, NoMemory>
     ensures allowed { IfOk result (λ e. MayLeave page.now e.path e.cuts) }
     ensures few { IfOk result (λ e. length e.cuts ≤ 4) }
 {
+    choose_by(alloc, CutRule::Least, page)
+}
+
+/// The part that leaves the page, where the rule tells which one of equal attributes is cut.
+///
+/// # Errors
+///
+/// Memory was refused.
+pub fn choose_by(alloc: Global, rule: CutRule, page: &LivePage) -> Result<Extraction, NoMemory>
+    requires well_cut { WellCut page.now }
+    requires in_order { AreInOrder page.now }
+    requires full { 6 ≤ weight_of page.now.frag }
+    requires bounded { weight_of page.now.frag < 2 ^ 32 }
+    ensures exact { IfOk result (λ e. IsChosenBy rule page.now e.path e.cuts) }
+    ensures thirds { IfOk result (λ e. IsThirds page.now e.path e.cuts) }
+    ensures allowed { IfOk result (λ e. MayLeave page.now e.path e.cuts) }
+    ensures few { IfOk result (λ e. length e.cuts ≤ 4) }
+{
     let total = page.weight();
     let path = way_down(alloc, &page.frag, total)?;
-    let cuts = cuts_at(alloc, page, &path, total)?;
+    let cuts = cuts_at(alloc, rule, page, &path, total)?;
     Ok(Extraction { path, cuts })
 }

@@ -11,6 +11,7 @@ ghost use Rattle.hb_split.specs.Choosing.{way_down, AreChosen};
 ghost use Rattle.hb_split.specs.Steps.{AreOf, AddsCuts};
 
 use crate::planes::best_cut;
+use crate::rules::CutRule;
 use crate::ways::is_heavy;
 use hb_frag::{Frag, Leaf, LivePage, Node, Path, Side};
 use hb_ops::{Cuts, LeafCut};
@@ -21,6 +22,7 @@ use std::alloc::Global;
 /// The cuts that are made where the way down ends.
 pub(crate) fn cuts_at(
     alloc: Global,
+    rule: CutRule,
     page: &LivePage,
     path: &Path,
     total: u32,
@@ -31,7 +33,7 @@ pub(crate) fn cuts_at(
     requires weight { total ≡ weight_of page.now.frag }
     requires way { path.now ≡ way_down total page.now.frag }
     ensures chosen { IfOk result (λ cuts. (part : Tree × Area) × (part_at path.now page.now.frag page.now.area ≡ Some part)
-        × AreChosen total (length page.now.area.lo) cuts part.0) }
+        × AreChosen rule total (length page.now.area.lo) cuts part.0) }
     ensures attributes { OnOk result (length page.now.area.lo ≤ KMAX) }
 {
     match page.subtree(path) {
@@ -39,7 +41,7 @@ pub(crate) fn cuts_at(
         Some((frag, _)) => {
             let attributes = page.area.lo().attributes();
             let mut cuts = SmallVec::new(alloc);
-            add_cuts(alloc, records_in(frag), attributes, total, &mut cuts)?;
+            add_cuts(alloc, rule, records_in(frag), attributes, total, &mut cuts)?;
             Ok(Cuts::new(cuts))
         }
     }
@@ -69,6 +71,7 @@ fn records_of(leaf: &Leaf) -> &[Record]
 #[tactic(auto, using(crate::proofs::Nexts::adds_none, crate::proofs::Nexts::adds_one))]
 fn add_cuts(
     alloc: Global,
+    rule: CutRule,
     records: &[Record],
     attributes: u8,
     total: u32,
@@ -77,15 +80,15 @@ fn add_cuts(
     requires full { 6 ≤ total }
     requires few { length records.now ≤ total }
     requires records { AreOf attributes records.now }
-    ensures { OnOk result (AddsCuts total attributes records.now cuts.old.items cuts.new.items) }
+    ensures { OnOk result (AddsCuts rule total attributes records.now cuts.old.items cuts.new.items) }
 {
     if !is_heavy(total, records.len() as u32) {
         return Ok(());
     }
-    let cut = best_cut(alloc, records, attributes)?;
+    let cut = best_cut(alloc, rule, records, attributes)?;
     let rest = going(alloc, records, cut)?;
     cuts.push(cut)?;
-    add_cuts(alloc, &rest, attributes, total, cuts)
+    add_cuts(alloc, rule, &rest, attributes, total, cuts)
 }
 
 /// The records on the side of the cut that goes on.

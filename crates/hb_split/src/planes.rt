@@ -1,36 +1,40 @@
-ghost use Rattle.std.specs.Prelude.{◌≡◌, ◌≤◌, ◌<◌, ◌^◌, ◌+◌, ◌-◌, length, slice_index, All, Some, IfOk};
+ghost use Rattle.std.specs.Prelude.{◌≡◌, ◌≤◌, ◌<◌, ◌^◌, ◌+◌, ◌-◌, ◌↔◌, length, slice_index, All, Some, IfOk, IsTrue};
 ghost use Rattle.hb_split.specs.Choosing.{heavier_side};
-ghost use Rattle.hb_split.specs.Steps.{AreOf, AreValues, BestOf, BestOn, BestStep, IsBestOn, IsNextCut, heavier_at};
+ghost use Rattle.hb_split.specs.Steps.{AreOf, AreValues, BestOf, BestOn, BestStep, IsBestOn, IsNextCut, Overtakes, heavier_at, preference_of};
 
+use crate::rules::CutRule;
 use crate::ways::heavier_side;
 use hb_ops::LeafCut;
 use hb_space::{NoMemory, Record};
 use std::alloc::Global;
 
-/// A plane that may be taken, with the number of records on its heavier side.
+/// A plane that may be taken, with the number of records on its heavier side, and what its attribute
+/// is preferred by.
 #[derive(Clone, Copy)]
 pub(crate) struct Candidate {
     cut: LeafCut,
     count: u32,
+    preference: u64,
 }
 
-/// The plane whose heavier side has fewest records, of equal ones the one of the least attribute,
-/// then of the least value.
+/// The plane whose heavier side has fewest records, of equal ones the one whose attribute the rule
+/// prefers, then that of the least attribute, then of the least value.
 #[tactic(auto, using(crate::proofs::Nexts::some_plane, crate::proofs::Nexts::next_of))]
 pub(crate) fn best_cut(
     alloc: Global,
+    rule: CutRule,
     records: &[Record],
     attributes: u8,
 ) -> Result<LeafCut, NoMemory>
     requires few { length records.now < 2 ^ 32 }
     requires several { 2 ≤ length records.now }
     requires records { AreOf attributes records.now }
-    ensures { IfOk result (IsNextCut attributes records.now) }
+    ensures { IfOk result (IsNextCut rule attributes records.now) }
 {
     let mut best = None;
     for axis in 0..attributes {
-        let other = best_on(alloc, records, axis)?;
-        best = better(records, best, other, axis);
+        let other = best_on(alloc, rule, records, axis)?;
+        best = better(rule, records, best, other, axis);
     }
     match best {
         Some(candidate) => Ok(candidate.cut),
@@ -41,49 +45,64 @@ pub(crate) fn best_cut(
 /// The better one of the best plane of the attributes below `axis` and the best one of `axis`.
 #[tactic(auto, using(crate::proofs::Better::best_alone))]
 fn better(
+    rule: CutRule,
     records: &[Record],
     best: Option<Candidate>,
     other: Option<Candidate>,
     axis: u8,
 ) -> Option<Candidate>
-    requires best { BestOf axis records.now best }
-    requires other { BestOn axis records.now other }
-    ensures { BestOf (axis + 1) records.now result }
+    requires best { BestOf rule axis records.now best }
+    requires other { BestOn rule axis records.now other }
+    ensures { BestOf rule (axis + 1) records.now result }
 {
     match best {
         None => other,
         Some(best) => match other {
             None => Some(best),
-            Some(other) => Some(lighter(records, best, other, axis)),
+            Some(other) => Some(first_of(rule, records, best, other, axis)),
         },
     }
 }
 
-/// The one whose heavier side has fewer records, the first where both have as many.
-#[tactic(auto, using(crate::proofs::Better::best_stays, crate::proofs::Better::other_wins))]
-fn lighter(records: &[Record], best: Candidate, other: Candidate, axis: u8) -> Candidate
-    requires best { BestOf axis records.now (Some best) }
-    requires other { IsBestOn axis records.now other }
-    ensures { BestOf (axis + 1) records.now (Some result) }
+/// The one that the rule takes. A plane of a later attribute has to be better to be taken.
+fn first_of(
+    rule: CutRule,
+    records: &[Record],
+    best: Candidate,
+    other: Candidate,
+    axis: u8,
+) -> Candidate
+    requires best { BestOf rule axis records.now (Some best) }
+    requires other { IsBestOn rule axis records.now other }
+    ensures { BestOf rule (axis + 1) records.now (Some result) }
 {
-    if other.count < best.count {
-        other
-    } else {
-        best
-    }
+    if overtakes(other, best) { other } else { best }
+}
+
+/// Whether a plane of a later attribute is better: its heavier side has fewer records, or as many
+/// and its attribute is preferred.
+fn overtakes(other: Candidate, best: Candidate) -> bool
+    ensures { IsTrue result ↔ Overtakes other best }
+{
+    other.count < best.count || other.count == best.count && best.preference < other.preference
 }
 
 /// The best plane of the attribute. None where all records have the same value.
 #[tactic(auto, using(crate::proofs::Values::no_plane, crate::proofs::Values::best_plane))]
-fn best_on(alloc: Global, records: &[Record], axis: u8) -> Result<Option<Candidate>, NoMemory>
+fn best_on(
+    alloc: Global,
+    rule: CutRule,
+    records: &[Record],
+    axis: u8,
+) -> Result<Option<Candidate>, NoMemory>
     requires few { length records.now < 2 ^ 32 }
     requires attribute { All (λ r. axis < length r.key) records.now }
-    ensures { IfOk result (BestOn axis records.now) }
+    ensures { IfOk result (BestOn rule axis records.now) }
 {
     let values = sorted_values(alloc, records, axis)?;
     match best_step(&values) {
         None => Ok(None),
-        Some(at) => Ok(Some(candidate_at(axis, &values, at))),
+        Some(at) => Ok(Some(candidate_at(rule, axis, &values, at))),
     }
 }
 
@@ -101,13 +120,14 @@ fn sorted_values(alloc: Global, records: &[Record], axis: u8) -> Result<Vec<u64>
 }
 
 /// The plane in front of a place of the sorted values.
-fn candidate_at(axis: u8, values: &[u64], at: usize) -> Candidate
+fn candidate_at(rule: CutRule, axis: u8, values: &[u64], at: usize) -> Candidate
     requires few { length values.now < 2 ^ 32 }
     requires inside { at < length values.now }
     ensures axis { result.cut.axis ≡ axis }
     ensures value { result.cut.value ≡ slice_index values.now at }
     ensures side { result.cut.side ≡ heavier_side at (length values.now - at) }
     ensures count { result.count ≡ heavier_at values.now at }
+    ensures preference { result.preference ≡ preference_of rule values.now }
 {
     let left = at as u32;
     let right = (values.len() - at) as u32;
@@ -118,6 +138,18 @@ fn candidate_at(axis: u8, values: &[u64], at: usize) -> Candidate
             side: heavier_side(left, right),
         },
         count: left.max(right),
+        preference: preference_of(rule, values),
+    }
+}
+
+/// What the attribute is preferred by that has these sorted values.
+fn preference_of(rule: CutRule, values: &[u64]) -> u64
+    requires some { 0 < length values.now }
+    ensures { result ≡ preference_of rule values.now }
+{
+    match rule {
+        CutRule::Least => 0,
+        CutRule::Wide => values[values.len() - 1].saturating_sub(values[0]),
     }
 }
 

@@ -1,5 +1,6 @@
 -- What a core asks the deciders of sessions and of the poster, by what its store has in memory, and what they say.
 use Rattle.std.specs.Prelude.{◌≡◌, ℕ, ◌<◌, Option, Some, None, IsSomeAnd}
+use Rattle.hb_split.specs.declared.rules.CutRule.{CutRule}
 use Rattle.hb_activity.specs.declared.activities.Activity.{Activity}
 use Rattle.hb_activity.specs.declared.activities.Activity.TheVariants as at
 use Rattle.hb_activity.specs.Deciding.{FitsFree}
@@ -73,19 +74,19 @@ pub record AsksSearcher (st : StoreState) (activity : Activity) (id : ℕ) : Typ
   pub made : FitsFile st.meta page
   pub asked : MaySearch activity page
 
--- what the rows read, at a place of the order
-abbrev pub sight_in : StoreState → ℕ → Sight
-sight_in st place = record { meta = st.meta; page_at = live_here st; next = next_of st; place = place }
+-- what the rows read, under a rule of cutting and at a place of the order
+abbrev pub sight_in : StoreState → CutRule → ℕ → Sight
+sight_in st rule place = record { meta = st.meta; page_at = live_here st; next = next_of st; place = place; rule = rule }
 
 -- what a decider's answer is: a row at the page of this number
-abbrev pub HasPointRow : StoreState → Activity → ℕ → ℕ → Deed → Type 0
-HasPointRow st activity id place deed = (page : LivePage) × (live_here st id ≡ Some page) × PointRow activity (sight_in st place) id page deed
+abbrev pub HasPointRow : StoreState → CutRule → Activity → ℕ → ℕ → Deed → Type 0
+HasPointRow st rule activity id place deed = (page : LivePage) × (live_here st id ≡ Some page) × PointRow activity (sight_in st rule place) id page deed
 
-abbrev pub HasPosterRow : StoreState → Activity → ℕ → ℕ → Deed → Type 0
-HasPosterRow st activity id place deed = (page : LivePage) × (live_here st id ≡ Some page) × PosterRow activity (sight_in st place) id page deed
+abbrev pub HasPosterRow : StoreState → CutRule → Activity → ℕ → ℕ → Deed → Type 0
+HasPosterRow st rule activity id place deed = (page : LivePage) × (live_here st id ≡ Some page) × PosterRow activity (sight_in st rule place) id page deed
 
-abbrev pub HasSearchRow : StoreState → Activity → ℕ → ℕ → Deed → Type 0
-HasSearchRow st activity id place deed = (page : LivePage) × (live_here st id ≡ Some page) × SearchRow activity (sight_in st place) id page deed
+abbrev pub HasSearchRow : StoreState → CutRule → Activity → ℕ → ℕ → Deed → Type 0
+HasSearchRow st rule activity id place deed = (page : LivePage) × (live_here st id ≡ Some page) × SearchRow activity (sight_in st rule place) id page deed
 
 -- A search is at a leaf of records of the page of this number.
 abbrev pub GathersAt : StoreState → Activity → ℕ → Type 0

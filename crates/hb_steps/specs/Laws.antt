@@ -66,6 +66,10 @@ abbrev pub OrderGrows : Type 0
 OrderGrows = (m : Machine) (actor : ℕ) (outcome : Outcome) (new : Machine) → StepsTo m actor outcome new →
     (new.lines ≡ m.lines) × ((new.order ≡ m.order) ⊎ ((entry : Entry) × (new.order ≡ m.order ++ entry ∷ [])))
 
+-- No step changes the rule that pages are cut by.
+abbrev pub RuleStays : Type 0
+RuleStays = (m : Machine) (actor : ℕ) (outcome : Outcome) (new : Machine) → StepsTo m actor outcome new → new.rule ≡ m.rule
+
 -- In a file that a crash may leave, each point of the space has exactly one responsible page, and the walk from the root
 -- ends there.
 pub record HasOnePage (s : FileState) (p : List ℕ) : Type 0 where

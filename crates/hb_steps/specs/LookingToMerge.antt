@@ -1,6 +1,7 @@
 -- What a core looks at for a step of the consolidator, by what its store has in memory.
 use Rattle.std.specs.Prelude.{◌≡◌, ℕ, Option, Some, None}
 use Rattle.std.specs.Option.{option_and_then}
+use Rattle.hb_split.specs.declared.rules.CutRule.{CutRule}
 use Rattle.hb_activity.specs.declared.activities.Activity.{Activity}
 use Rattle.hb_activity.specs.declared.activities.Activity.TheVariants as at
 use Rattle.hb_activity.specs.Deeds.{Deed}
@@ -33,5 +34,5 @@ pub record AsksMerger (st : StoreState) (activity : Activity) (id : ℕ) : Type 
   pub asked : MayAskToMerge activity st.meta page (other_page st activity) (second_page st activity)
 
 -- what its answer is: a row at the page of this number
-abbrev pub HasMergerRow : StoreState → Activity → ℕ → ℕ → Deed → Type 0
-HasMergerRow st activity id place deed = (page : LivePage) × (live_here st id ≡ Some page) × ConsolidatorRow activity (sight_in st place) id page deed
+abbrev pub HasMergerRow : StoreState → CutRule → Activity → ℕ → ℕ → Deed → Type 0
+HasMergerRow st rule activity id place deed = (page : LivePage) × (live_here st id ≡ Some page) × ConsolidatorRow activity (sight_in st rule place) id page deed

@@ -1,6 +1,7 @@
 -- The state of the step machine: all that a step looks at or changes, as data.
 use Rattle.std.specs.Prelude.{◌≢◌, AllPairs, ℕ, ◌==◌, ◌+◌, nat_lt, if◌then◌else◌, List, [], ◌∷◌, length, Option, Some, None}
 use Rattle.std.specs.Option.{option_and_then}
+use Rattle.hb_split.specs.declared.rules.CutRule.{CutRule}
 use Rattle.hb_frag.specs.declared.pages.LivePage.{LivePage}
 use Rattle.hb_frag.specs.declared.pages.Page.{Page}
 use Rattle.hb_frag.specs.declared.pages.Page.TheVariants.{Live, Free}
@@ -32,6 +33,8 @@ current_file files = last_of files.durable files.later
 pub record Machine : Type 0 where
   -- the command lines of the script
   pub lines : List Line
+  -- which attribute of equal ones a page is cut by, which no step changes
+  pub rule : CutRule
   -- the answers so far, in their sequence, each with the disk's clock after its step
   pub answered : List Answered
   -- where each actor stands
@@ -89,7 +92,7 @@ next_of st = if st.meta.free == 0 then (if nat_lt st.meta.high st.meta.pages the
 
 -- what the rows of the table read
 abbrev pub sight : Machine → Sight
-sight m = record { meta = m.store.meta; page_at = live_here m.store; next = next_of m.store; place = length m.order }
+sight m = record { meta = m.store.meta; page_at = live_here m.store; next = next_of m.store; place = length m.order; rule = m.rule }
 
 -- all activities with another one for an actor
 abbrev pub with_activity : ℕ → Activity → (ℕ → Activity) → ℕ → Activity

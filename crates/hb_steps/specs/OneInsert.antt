@@ -1,5 +1,6 @@
 -- The smallest chain: one session inserts a record into an empty page, and is answered.
 use Rattle.std.specs.Prelude.{ℕ, List, [], ◌∷◌}
+use Rattle.hb_split.specs.declared.rules.CutRule.TheVariants.{Least}
 use Rattle.hb_space.specs.declared.records.Record.{Record}
 use Rattle.hb_frag.specs.declared.leaves.Leaf.TheVariants.{Records}
 use Rattle.hb_frag.specs.declared.pages.LivePage.{LivePage}
@@ -38,6 +39,7 @@ before_insert = at_start (inserts_a ∷ []) [] [] (record { meta = flat_meta; pa
 abbrev pub after_insert : Scene
 after_insert = record {
   lines = inserts_a ∷ [];
+  rule = Least;
   answered = record { line = 1; reply = replies.Done; at = 4 } ∷ [];
   at_work = (1, SessionIdle) ∷ [];
   jobs = [];

@@ -48,6 +48,7 @@ OutcomeIsOne = (m : Machine) (actor : ℕ) (outcome other : Outcome) (new next :
 -- Two machines are one: the same pages are in memory, too, in the same order of use.
 pub record AreOne (new next : Machine) : Type 0 where
   pub lines : new.lines ≡ next.lines
+  pub rule : new.rule ≡ next.rule
   pub answered : new.answered ≡ next.answered
   pub activity : (actor : ℕ) → new.activity actor ≡ next.activity actor
   pub jobs : new.jobs ≡ next.jobs

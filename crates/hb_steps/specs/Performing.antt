@@ -72,6 +72,7 @@ pub record ChangesQueue (deed : Deed) (old new : List Job) : Type 0 where
 pub record Performs (m : Machine) (fetched : StoreState) (actor : ℕ) (deed : Deed) (outcome : Outcome) (new : Machine) : Type 0 where
   pub says : outcome ≡ outcome_of deed.says
   pub lines : new.lines ≡ m.lines
+  pub rule : new.rule ≡ m.rule
   pub answered : new.answered ≡ m.answered ++ given_by (outcome_of deed.says) m.clock
   pub activity : (other : ℕ) → new.activity other ≡ with_activity actor deed.next m.activity other
   pub jobs : ChangesQueue deed m.jobs new.jobs

@@ -2,6 +2,8 @@
 use Rattle.std.specs.Prelude.{◌≡◌, ℕ, ◌==◌, nat_le, false, if◌then◌else◌, List, [], ◌∷◌, map, Some, None}
 use Rattle.std.specs.FinMap as finite
 use Rattle.std.specs.FinSet as set
+use Rattle.hb_split.specs.declared.rules.CutRule.{CutRule}
+use Rattle.hb_split.specs.declared.rules.CutRule.TheVariants.{Least}
 use Rattle.hb_frag.specs.declared.pages.Page.{Page}
 use Rattle.hb_layout.specs.declared.meta.Meta.{Meta}
 use Rattle.hb_set.specs.declared.scripts.Answered.{Answered}
@@ -23,6 +25,7 @@ use Rattle.hb_wal.specs.Log.{Waiting}
 -- A machine as lists, in which nobody holds a page. Whoever isn't named among those at work is at rest.
 pub record Scene : Type 0 where
   pub lines : List Line
+  pub rule : CutRule
   pub answered : List Answered
   pub at_work : List (ℕ × Activity)
   pub jobs : List Job
@@ -45,6 +48,7 @@ pub record Scene : Type 0 where
 abbrev pub at_start : List Line → List Job → List (ℕ × Page) → FileState → Scene
 at_start lines jobs pages file = record {
   lines = lines;
+  rule = Least;
   answered = [];
   at_work = [];
   jobs = jobs;
@@ -90,6 +94,7 @@ uses_in s = map (λ (one : ℕ × Page). record { id = one.0; bytes = tt {0}; di
 abbrev pub machine_of : Scene → Machine
 machine_of s = record {
   lines = s.lines;
+  rule = s.rule;
   answered = s.answered;
   activity = standing s.at_work;
   jobs = s.jobs;

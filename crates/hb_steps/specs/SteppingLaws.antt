@@ -1,5 +1,6 @@
 -- The machine that has taken no step, and what a list of steps does of itself, as laws.
 use Rattle.std.specs.Prelude.{◌≡◌, ℕ, ◌≤◌, false, List, [], ◌++◌, All, Some, None}
+use Rattle.hb_split.specs.declared.rules.CutRule.{CutRule}
 use Rattle.hb_set.specs.declared.scripts.Answered.{Answered}
 use Rattle.hb_activity.specs.declared.activities.Activity.{Activity}
 use Rattle.hb_activity.specs.declared.activities.Activity.TheVariants as at
@@ -71,23 +72,25 @@ abbrev pub BeginningKeepsAll : Type 0
 BeginningKeepsAll = (m : Machine) (s : FileState) → IsBegunOver m s → CoreKeeps (contents_of s) m (record { durable = s; later = [] })
 
 -- There is such a machine over each sound file, of each script that fits it.
-pub record IsBegunWith (s : FileState) (turn : ℕ) (lines : List Line) (clock : ℕ) (m : Machine) : Type 0 where
+pub record IsBegunWith (s : FileState) (turn : ℕ) (rule : CutRule) (lines : List Line) (clock : ℕ) (m : Machine) : Type 0 where
   pub begun : IsBegunOver m s
   pub turn_is : m.store.turn ≡ turn
+  pub rule_is : m.rule ≡ rule
   pub lines_are : m.lines ≡ lines
   pub clock_is : m.clock ≡ clock
 
 abbrev pub BeginningExists : Type 0
-BeginningExists = (s : FileState) (turn : ℕ) (lines : List Line) (clock : ℕ) → IsSound s → IsLayout s.meta → turn ≤ 3 → AreRising lines → All HasLineBody lines → All (LineFits s.meta.k) lines →
-    (m : Machine) × IsBegunWith s turn lines clock m
+BeginningExists = (s : FileState) (turn : ℕ) (rule : CutRule) (lines : List Line) (clock : ℕ) → IsSound s → IsLayout s.meta → turn ≤ 3 → AreRising lines → All HasLineBody lines → All (LineFits s.meta.k) lines →
+    (m : Machine) × IsBegunWith s turn rule lines clock m
 
--- What a list of steps does: the lines stay, the order and the answers only grow, at their ends, and the clock never falls.
+-- What a list of steps does: the lines and the rule of cutting stay, the order and the answers only grow, at their ends, and the clock never falls.
 -- Each answer that came has a value of the clock between the first and the last one.
 abbrev pub IsBetween : ℕ → ℕ → Answered → Type 0
 IsBetween first last a = (first ≤ a.at) × (a.at ≤ last)
 
 pub record HasGoneOn (m new : Machine) : Type 0 where
   pub lines : new.lines ≡ m.lines
+  pub rule : new.rule ≡ m.rule
   pub entries : List Entry
   pub order : new.order ≡ m.order ++ entries
   pub answers : List Answered

@@ -1,7 +1,7 @@
 //! What follows of steps from the table alone. Each law is the contract of a function that does
 //! nothing: a caller learns it by the call.
 
-ghost use Rattle.hb_steps.specs.Laws.{AnswersAreTimed, ClockMoves, HeldPagesStay, LatchesStayFit, OrderGrows, OthersStay, OwnPagesChange, PointsHaveOnePage, WalksGoFurther};
+ghost use Rattle.hb_steps.specs.Laws.{AnswersAreTimed, ClockMoves, HeldPagesStay, LatchesStayFit, OrderGrows, OthersStay, OwnPagesChange, PointsHaveOnePage, RuleStays, WalksGoFurther};
 ghost use Rattle.hb_steps.specs.NeedLaws.{PagesComeByNeed};
 
 use hb_latch::laws::going_beside_is_mutual;
@@ -26,10 +26,11 @@ pub fn a_step_brings_what_it_needs()
 {}
 
 /// No other actor stands elsewhere after a step; and where latches fit, none has other latches. The lines
-/// stay, and the order stays or has one entry more at its end.
+/// and the rule of cutting stay, and the order stays or has one entry more at its end.
 pub fn a_step_leaves_other_actors_alone()
     ensures others { OthersStay }
     ensures order { OrderGrows }
+    ensures rule { RuleStays }
 {}
 
 /// In the file that is durable, and in that after each group that waits, each point of the space has exactly

@@ -47,6 +47,7 @@ use Rattle.hb_core.specs.Touching.{held_in}
 shows_waiting : (d : DiskModel) (c : RunningCore) (m : Machine) (jobs : List Job) → ShowsMachine d c m → ShowsMachine d (with_jobs jobs c) (with_waiting jobs m)
 shows_waiting d c m jobs shows = record {
   lines = shows.lines;
+  rule = shows.rule;
   sessions = shows.sessions;
   turns = λ session behind low high is. let had = shows.turns session behind low high is in record { few = had.few; front = had.front; back = had.back };
   all_actors = shows.all_actors;

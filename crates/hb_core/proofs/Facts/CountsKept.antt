@@ -1,5 +1,6 @@
 -- What calls make of the counts of a core: no more operations of a kind were counted than steps, and the file's height rises by growths.
-use Rattle.hb_core.proofs.Facts.Names.{◌≡◌, inl, inr, ℕ, ◌+◌, ◌≤◌, Bool, true, false, cond, List, Option, Some, None, sym, ap, ◌∙◌, subst, arith, Meta, Use, Line, StoreState, RunningCore, begun_core}
+use Rattle.hb_core.proofs.Facts.Names.{◌≡◌, inl, inr, ℕ, ◌+◌, ◌≤◌, Bool, true, false, cond, List, Option, Some, None, sym, ap, ◌∙◌, subst, arith, Meta, Use, Line, StoreState, RunningCore, begun_core_by}
+use Rattle.hb_split.specs.declared.rules.CutRule.{CutRule}
 use Rattle.std.proofs.Common.{◌-◌, ◌^◌, ◌==◌}
 use Rattle.hb_frag.specs.declared.pages.LivePage.{LivePage}
 use Rattle.hb_ops.specs.Operations.{change_of}
@@ -52,8 +53,8 @@ at_last : (taken : ℕ) → next_count taken ≤ 2 ^ 64 - 1
 at_last taken = omega arith
 
 -- a core that has taken no step, a step, and a call that counts nothing
-pub begun_within : (lines : List Line) (steps : List ℕ) (store : StoreState) (uses : List Use) → CountsWithin (begun_core lines steps store uses)
-begun_within lines steps store uses = record { last = omega arith; grown = omega arith; posted = omega arith; split = omega arith; merged = omega arith }
+pub begun_within : (rule : CutRule) (lines : List Line) (steps : List ℕ) (store : StoreState) (uses : List Use) → CountsWithin (begun_core_by rule lines steps store uses)
+begun_within rule lines steps store uses = record { last = omega arith; grown = omega arith; posted = omega arith; split = omega arith; merged = omega arith }
 
 pub steps_within : (actor : ℕ) (old new : RunningCore) → CountsStep actor old new → CountsWithin old → CountsWithin new
 steps_within actor old new step within = by step.done

@@ -1,7 +1,7 @@
 -- What the files of this folder share.
 pub use Rattle.hb_core.specs.Runs.{AreAnswers, without_clock, left_count, CrashesTo, HoldsSince, RunningLaws, ChangesFile, CountsFaults, HasRun}
 pub use Rattle.hb_core.specs.Showing.{ShowsMachine, RunningCore}
-pub use Rattle.hb_core.specs.Taking.{begun_core}
+pub use Rattle.hb_core.specs.Taking.{begun_core, begun_core_by}
 pub use Rattle.hb_core.specs.Touching.{Touches}
 pub use Rattle.hb_core.specs.Working.{MayStep}
 pub use Rattle.hb_disk.proofs.Facts.BecomesLaws.{Becomes-read}

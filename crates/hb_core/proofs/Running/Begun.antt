@@ -1,5 +1,6 @@
 -- A core that has taken no step shows a machine that has taken none.
 use Rattle.hb_core.proofs.Running.Names.{◌≡◌, inl, inr, ℕ, ◌==◌, cond, Result, Ok, Err, IfOk, ◌-◌, ◌<◌, ◌≤◌, List, [], ◌∷◌, get_or, replicate, Some, None, IsSome, refl, sym, ap, subst, ◌∙◌, arith, cases_lt, false≢true, get_or_from_slice_get, slice_get-get_or, slice_get_within, none-some, DiskModel, IsActor, Answered, Line, Entry, Class, Sessions, Posters, Consolidators, Flushers, idle_of, is_answered, Use, StoreState, class_for, HasAnswer, Machine, HasTurn, ShowsFiles, ShowsMachine, number_in_hand, at_other, RunningCore}
+use Rattle.hb_split.specs.declared.rules.CutRule.{CutRule}
 use Rattle.std.proofs.Common.{map, slice_get}
 use mathlib.Core.Path.{fun_ext}
 use Rattle.hb_steps.proofs.Machines.FramesKept.{none_latched}
@@ -8,7 +9,7 @@ use Rattle.std.proofs.lemmas.List.{get_or-replicate}
 use Rattle.hb_latch.specs.Tables.{latch_cmp}
 use Rattle.hb_activity.specs.declared.activities.Activity.TheVariants.{SessionIdle, PosterIdle, ConsolidatorIdle, Flusher}
 use Rattle.hb_steps.specs.SteppingLaws.{IsBegun}
-use Rattle.hb_core.specs.Taking.{all_idle, begun_core}
+use Rattle.hb_core.specs.Taking.{all_idle, begun_core_by}
 use Rattle.hb_lemmas.proofs.Lists.{get-longer}
 use Rattle.hb_steps.proofs.Machines.Beginnings.{beginning_keeps}
 
@@ -67,10 +68,11 @@ turn_so m session behind begun there =
     zero_so : 0 ≡ behind
     zero_so = sym (get_or-replicate 16 (session - 1) 0 0 (slice_get_within (replicate 16 0) (session - 1) behind there)) ∙ get_or_from_slice_get (replicate 16 0) (session - 1) behind 0 there
 
-pub begun_shows : (d : DiskModel) (m : Machine) (lines : List Line) (steps : List ℕ) (store : StoreState) (uses : List Use) → IsBegun m → m.lines ≡ lines → m.store ≡ store → m.uses ≡ uses
-    → (IsSome d.told → ShowsFiles d m) → (d.told ≡ None → m.files ≡ None) → ShowsMachine d (begun_core lines steps store uses) m
-begun_shows d m lines steps store uses begun lines_so store_so uses_so tells silent = record {
+pub begun_shows : (d : DiskModel) (m : Machine) (rule : CutRule) (lines : List Line) (steps : List ℕ) (store : StoreState) (uses : List Use) → IsBegun m → m.rule ≡ rule → m.lines ≡ lines → m.store ≡ store → m.uses ≡ uses
+    → (IsSome d.told → ShowsFiles d m) → (d.told ≡ None → m.files ≡ None) → ShowsMachine d (begun_core_by rule lines steps store uses) m
+begun_shows d m rule lines steps store uses begun rule_so lines_so store_so uses_so tells silent = record {
   lines = lines_so;
+  rule = rule_so;
   sessions = refl;
   turns = λ session behind low high there. turn_so m session behind begun there;
   all_actors = refl;
@@ -87,10 +89,10 @@ begun_shows d m lines steps store uses begun lines_so store_so uses_so tells sil
 }
 
 -- so of a core that was made, if it was
-pub over_shows : {C E D : Type 0} (result : Result C E) (seen : C → RunningCore) (disk : C → D) (model : D → DiskModel) (d : D) (lines : List Line) (steps : List ℕ) (store : StoreState) (uses : List Use)
-    → IfOk result (λ c. seen c ≡ begun_core lines steps store uses) → IfOk result (λ c. disk c ≡ d)
-    → IfOk result (λ c. (m : Machine) → IsBegun m → m.lines ≡ lines → m.store ≡ store → m.uses ≡ uses → (IsSome (model d).told → ShowsFiles (model d) m) → ((model d).told ≡ None → m.files ≡ None) → ShowsMachine (model (disk c)) (seen c) m)
-over_shows (Ok c) seen disk model d lines steps store uses seen_so disk_so = λ m begun lines_so store_so uses_so tells silent.
+pub over_shows : {C E D : Type 0} (result : Result C E) (seen : C → RunningCore) (disk : C → D) (model : D → DiskModel) (d : D) (rule : CutRule) (lines : List Line) (steps : List ℕ) (store : StoreState) (uses : List Use)
+    → IfOk result (λ c. seen c ≡ begun_core_by rule lines steps store uses) → IfOk result (λ c. disk c ≡ d)
+    → IfOk result (λ c. (m : Machine) → IsBegun m → m.rule ≡ rule → m.lines ≡ lines → m.store ≡ store → m.uses ≡ uses → (IsSome (model d).told → ShowsFiles (model d) m) → ((model d).told ≡ None → m.files ≡ None) → ShowsMachine (model (disk c)) (seen c) m)
+over_shows (Ok c) seen disk model d rule lines steps store uses seen_so disk_so = λ m begun rule_so lines_so store_so uses_so tells silent.
     subst (λ (r : RunningCore). ShowsMachine (model (disk c)) r m) (sym seen_so)
-    (subst (λ e. ShowsMachine (model e) (begun_core lines steps store uses) m) (sym disk_so) (begun_shows (model d) m lines steps store uses begun lines_so store_so uses_so tells silent))
-over_shows (Err e) seen disk model d lines steps store uses seen_so disk_so = tt
+    (subst (λ e. ShowsMachine (model e) (begun_core_by rule lines steps store uses) m) (sym disk_so) (begun_shows (model d) m rule lines steps store uses begun rule_so lines_so store_so uses_so tells silent))
+over_shows (Err e) seen disk model d rule lines steps store uses seen_so disk_so = tt

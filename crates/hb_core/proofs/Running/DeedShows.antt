@@ -15,6 +15,7 @@ use Rattle.hb_core.proofs.Running.TurnsAfter.{has_turn, turn_after, turn_at}
 abbrev pub after_deed : RunningCore → Machine → ℕ → Deed → Machine
 after_deed c m actor deed = record {
   lines = m.lines;
+  rule = m.rule;
   answered = m.answered ++ given_by (outcome_of deed.says) m.clock;
   activity = with_activity actor deed.next m.activity;
   jobs = c.jobs;
@@ -48,6 +49,7 @@ module _ (d : DiskModel) (c after : RunningCore) (m : Machine) (actor : ℕ) (de
   performed = record {
     says = does.says;
     lines = refl;
+    rule = refl;
     answered = refl;
     activity = λ other. refl;
     jobs = subst (λ (l : List Job). ChangesQueue deed l after.jobs) (sym shows.jobs) does.jobs;
@@ -85,6 +87,7 @@ module _ (d : DiskModel) (c after : RunningCore) (m : Machine) (actor : ℕ) (de
     (performed, refl, refl),
     record {
       lines = shows.lines ∙ sym (of_core (λ s. s.lines));
+      rule = shows.rule ∙ sym (of_core (λ s. s.rule));
       sessions = ap (λ (l : List ℕ). length l) (of_core (λ s. s.behind)) ∙ shows.sessions;
       turns = λ session behind low high is.
           has_turn new session behind

@@ -17,7 +17,8 @@ use Rattle.hb_activity.specs.Passing.{PartLeavesTo, posts_owed}
 use Rattle.hb_point.specs.SessionRows.{DoesThere, merges_due}
 use Rattle.hb_point.specs.SplitRows.{PutsInHalf, SplitsOrFull}
 use Rattle.hb_poster.specs.PosterRows.{Arrives, PosterPasses, after_look}
-use Rattle.hb_split.specs.Choosing.{IsChosen}
+use Rattle.hb_split.specs.declared.rules.CutRule.{CutRule}
+use Rattle.hb_split.specs.Choosing.{IsChosenBy}
 use Rattle.hb_core.specs.Moving.{placed}
 use Rattle.hb_steps.specs.Rows.{DoesHere}
 
@@ -26,6 +27,17 @@ pub record IsSeenIn (t s : Sight) : Type 0 where
   pub meta : s.meta ≡ t.meta
   pub pages : (id : ℕ) (page : LivePage) → s.page_at id ≡ Some page → t.page_at id ≡ Some page
   pub next : (number : ℕ × ℕ) → s.next ≡ Some number → t.next ≡ Some number
+
+-- A row that cuts a page cuts it by one rule in both.
+abbrev pub CutsAlike : Activity → CutRule → CutRule → Type 0
+CutsAlike (at.SessionSplit line held) rule other = rule ≡ other
+CutsAlike (at.PosterAgain job parent) rule other = rule ≡ other
+CutsAlike activity rule other = Unit {0}
+
+pub alike_itself : (activity : Activity) (rule : CutRule) → CutsAlike activity rule rule
+alike_itself (at.SessionSplit line held) rule = refl
+alike_itself (at.PosterAgain job parent) rule = refl
+alike_itself activity rule = tt
 
 module _ (s t : Sight) (seen : IsSeenIn t s) where
   abbrev at_end : Deed → Deed
@@ -54,11 +66,11 @@ module _ (s t : Sight) (seen : IsSeenIn t s) where
   walked line (Some p) rest found id page deed (inl on) = inl (passes page p (at.SessionWalk line (Some id) rest found) deed refl on)
   walked line (Some p) rest found id page deed (inr does) = inr (there line line.command id page deed does)
 
-  leaves : (choice : List Side → List LeafCut → Type 0) (page : LivePage) → PartLeavesTo s choice page → PartLeavesTo t choice page
-  leaves choice page part = record {
+  leaves : (same : s.rule ≡ t.rule) (page : LivePage) → PartLeavesTo s (IsChosenBy s.rule page) page → PartLeavesTo t (IsChosenBy t.rule page) page
+  leaves same page part = record {
     path = part.path;
     cuts = part.cuts;
-    chosen = part.chosen;
+    chosen = subst (λ (rule : CutRule). IsChosenBy rule page part.path part.cuts) same part.chosen;
     part = part.part;
     there = part.there;
     fresh = part.fresh;
@@ -70,19 +82,19 @@ module _ (s t : Sight) (seen : IsSeenIn t s) where
   none_free : s.meta.live ≡ s.meta.pages → t.meta.live ≡ t.meta.pages
   none_free none = subst (λ (m : Meta). m.live ≡ m.pages) seen.meta none
 
-  splits : (line : Line) (held : ℕ) (deed : Deed) → SplitsOrFull s line held deed → SplitsOrFull t line held (at_end deed)
+  splits : s.rule ≡ t.rule → (line : Line) (held : ℕ) (deed : Deed) → SplitsOrFull s line held deed → SplitsOrFull t line held (at_end deed)
   unfolding leaves
-  splits line held deed (inl none) = inl (record { none_free = none_free none.none_free; deed_is = ap at_end none.deed_is })
-  splits line held deed (inr row) = inr (record { page = row.page; live = seen.pages held row.page row.live; leaves = leaves (IsChosen row.page) row.page row.leaves; deed_is = ap at_end row.deed_is })
+  splits same line held deed (inl none) = inl (record { none_free = none_free none.none_free; deed_is = ap at_end none.deed_is })
+  splits same line held deed (inr row) = inr (record { page = row.page; live = seen.pages held row.page row.live; leaves = leaves same row.page row.leaves; deed_is = ap at_end row.deed_is })
 
   puts : (line : Line) (source fresh : ℕ) (deed : Deed) → PutsInHalf s line source fresh deed → PutsInHalf t line source fresh (at_end deed)
   puts line source fresh deed row = record { rec = row.rec; command = row.command; half = row.half; either = row.either; page = row.page; live = seen.pages row.half row.page row.live; holds = row.holds; deed_is = ap at_end row.deed_is }
 
-  pub lifted_point : (activity : Activity) (id : ℕ) (page : LivePage) (deed : Deed) → PointRow activity s id page deed → PointRow activity t id page (at_end deed)
-  lifted_point (at.SessionWalk line held rest found) id page deed row = walked line (goal_of line.command rest) rest found id page deed row
-  lifted_point (at.SessionSplit line held) id page deed row = splits line held deed row
-  lifted_point (at.SessionPut line source fresh) id page deed row = puts line source fresh deed row
-  lifted_point activity id page deed row = absurd row
+  pub lifted_point : (activity : Activity) (id : ℕ) (page : LivePage) (deed : Deed) → CutsAlike activity s.rule t.rule → PointRow activity s id page deed → PointRow activity t id page (at_end deed)
+  lifted_point (at.SessionWalk line held rest found) id page deed same row = walked line (goal_of line.command rest) rest found id page deed row
+  lifted_point (at.SessionSplit line held) id page deed same row = splits same line held deed row
+  lifted_point (at.SessionPut line source fresh) id page deed same row = puts line source fresh deed row
+  lifted_point activity id page deed same row = absurd row
 
   -- ---- searches
 
@@ -140,20 +152,20 @@ module _ (s t : Sight) (seen : IsSeenIn t s) where
   looked job parent (plans.Post at inner area) = refl
   looked job parent plans.SplitFirst = refl
 
-  does_plan : (job : Job) (parent : ℕ) (page : LivePage) (plan : PostPlan) (deed : Deed) → DoesPlan s job parent page plan deed → DoesPlan t job parent page plan (at_end deed)
+  does_plan : s.rule ≡ t.rule → (job : Job) (parent : ℕ) (page : LivePage) (plan : PostPlan) (deed : Deed) → DoesPlan s job parent page plan deed → DoesPlan t job parent page plan (at_end deed)
   unfolding leaves
-  does_plan job parent page plans.Nothing deed does = ap at_end does
-  does_plan job parent page (plans.Post at inner area) deed does = ap at_end does
-  does_plan job parent page plans.SplitFirst deed (inl none) = inl (record { none_free = none_free none.none_free; deed_is = ap at_end none.deed_is })
-  does_plan job parent page plans.SplitFirst deed (inr row) = inr (record { leaves = leaves (IsChosen page) page row.leaves; deed_is = ap at_end row.deed_is })
+  does_plan same job parent page plans.Nothing deed does = ap at_end does
+  does_plan same job parent page (plans.Post at inner area) deed does = ap at_end does
+  does_plan same job parent page plans.SplitFirst deed (inl none) = inl (record { none_free = none_free none.none_free; deed_is = ap at_end none.deed_is })
+  does_plan same job parent page plans.SplitFirst deed (inr row) = inr (record { leaves = leaves same page row.leaves; deed_is = ap at_end row.deed_is })
 
-  pub lifted_poster : (activity : Activity) (id : ℕ) (page : LivePage) (deed : Deed) → PosterRow activity s id page deed → PosterRow activity t id page (at_end deed)
-  lifted_poster (at.PosterGrow job) id page deed row = grows job page deed row
-  lifted_poster (at.PosterWalk job held) id page deed row = walks job id page deed row
-  lifted_poster (at.PosterChild job parent) id page deed row = record { page = row.page; live = seen.pages parent row.page row.live; plan = row.plan; planned = same_plan row.page page job.point row.plan row.planned; deed_is = ap at_end row.deed_is ∙ looked job parent row.plan }
-  lifted_poster (at.PosterPromote job parent) id page deed row = ap at_end row
-  lifted_poster (at.PosterAgain job parent) id page deed row = record { page = row.page; live = seen.pages parent row.page row.live; plan = row.plan; planned = same_plan row.page page job.point row.plan row.planned; does_it = does_plan job parent row.page row.plan deed row.does_it }
-  lifted_poster activity id page deed row = absurd row
+  pub lifted_poster : (activity : Activity) (id : ℕ) (page : LivePage) (deed : Deed) → CutsAlike activity s.rule t.rule → PosterRow activity s id page deed → PosterRow activity t id page (at_end deed)
+  lifted_poster (at.PosterGrow job) id page deed same row = grows job page deed row
+  lifted_poster (at.PosterWalk job held) id page deed same row = walks job id page deed row
+  lifted_poster (at.PosterChild job parent) id page deed same row = record { page = row.page; live = seen.pages parent row.page row.live; plan = row.plan; planned = same_plan row.page page job.point row.plan row.planned; deed_is = ap at_end row.deed_is ∙ looked job parent row.plan }
+  lifted_poster (at.PosterPromote job parent) id page deed same row = ap at_end row
+  lifted_poster (at.PosterAgain job parent) id page deed same row = record { page = row.page; live = seen.pages parent row.page row.live; plan = row.plan; planned = same_plan row.page page job.point row.plan row.planned; does_it = does_plan same job parent row.page row.plan deed row.does_it }
+  lifted_poster activity id page deed same row = absurd row
 
 -- ---- what a session's decider says of a walk is a row of it
 

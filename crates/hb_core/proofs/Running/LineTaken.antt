@@ -37,6 +37,7 @@ is_session actor may is = let none = no_worker actor is in below_workers actor m
 abbrev taken : RunningCore → Machine → ℕ → Line → Machine
 taken c m actor line = record {
   lines = m.lines;
+  rule = m.rule;
   answered = m.answered;
   activity = with_activity actor (at.SessionWalk line None (boxes_ahead line.command) []) m.activity;
   jobs = m.jobs;
@@ -90,6 +91,7 @@ module _ (d : DiskModel) (c after : RunningCore) (m : Machine) (actor behind : �
     shown_at_end : ShowsMachine d at_end m
     shown_at_end = record {
       lines = step.shows.lines;
+      rule = step.shows.rule;
       sessions = length-set c.behind (actor - 1) (length c.lines) ∙ step.shows.sessions;
       turns = turns_with m (length c.lines) end_turn (λ other n low high off is. step.shows.turns other n low high is);
       all_actors = step.shows.all_actors;
@@ -126,6 +128,7 @@ module _ (d : DiskModel) (c after : RunningCore) (m : Machine) (actor behind : �
     takes_it outcome says = record {
       says = says;
       lines = refl;
+      rule = refl;
       answered = sym (append-nil m.answered);
       activity = λ other. refl;
       jobs = record { left = m.jobs; takes = refl; adds = refl };
@@ -163,6 +166,7 @@ module _ (d : DiskModel) (c after : RunningCore) (m : Machine) (actor behind : �
     shown : ShowsMachine d after (taken after m actor line)
     shown = record {
       lines = step.shows.lines ∙ sym (of_core (λ s. s.lines));
+      rule = step.shows.rule ∙ sym (of_core (λ s. s.rule));
       sessions = ap (λ (l : List ℕ). length l) (of_core (λ s. s.behind)) ∙ length-set c.behind (actor - 1) (behind + place + 1) ∙ step.shows.sessions;
       turns = turns_then;
       all_actors = ap (λ (l : List Activity). length l) (of_core (λ s. s.activities)) ∙ length-set c.activities (actor - 1) walk ∙ step.shows.all_actors;
@@ -199,6 +203,7 @@ module _ (d : DiskModel) (c after : RunningCore) (m : Machine) (actor behind : �
     answers_it = record {
       says = refuses.says;
       lines = refl;
+      rule = refl;
       answered = refl;
       activity = still_idle;
       jobs = record { left = m.jobs; takes = refl; adds = refl };
@@ -232,6 +237,7 @@ module _ (d : DiskModel) (c after : RunningCore) (m : Machine) (actor behind : �
     shown_refused : ShowsMachine d (record c { behind = slice_set c.behind (actor - 1) (behind + place + 1) }) refused
     shown_refused = record {
       lines = step.shows.lines;
+      rule = step.shows.rule;
       sessions = length-set c.behind (actor - 1) (behind + place + 1) ∙ step.shows.sessions;
       turns = turns_with refused (behind + place + 1) refused_turn refused_other;
       all_actors = step.shows.all_actors;

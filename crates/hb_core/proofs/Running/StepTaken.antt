@@ -18,6 +18,7 @@ pub counted : (taken : ℕ) (d : DiskModel) (c : RunningCore) (m : Machine) → 
 counted taken d c m step = record {
   shows = record {
     lines = step.shows.lines;
+    rule = step.shows.rule;
     sessions = step.shows.sessions;
     turns = step.shows.turns;
     all_actors = step.shows.all_actors;

@@ -13,7 +13,8 @@ use Rattle.hb_frag.specs.Paths.{part_at}
 use Rattle.hb_frag.specs.Rules.{AreInOrder, IsSiblingTip}
 use Rattle.hb_ops.specs.Cutting.{going, half_area, is_on, other_side, records_in, reached, PartLeaves}
 use Rattle.hb_ops.specs.declared.leaf_cuts.LeafCut.{LeafCut}
-use Rattle.hb_split.specs.Choosing.{way_down, MayCut, AreChosen, IsThirds, MayLeave, IsChosen}
+use Rattle.hb_split.specs.declared.rules.CutRule.{CutRule}
+use Rattle.hb_split.specs.Choosing.{way_down, MayCut, AreChosen, IsThirds, MayLeave, IsChosenBy}
 use Rattle.hb_split.proofs.Facts.Ends.{at_end, of_page, records_held, is_thirds}
 use Rattle.hb_split.proofs.Nexts.{parts}
 use Rattle.hb_ops.proofs.Facts.LeafHalfLaws.{holds_on, side_attributes}
@@ -34,9 +35,9 @@ plane_cuts k axis value records a same held m =
     let l = low.between axis (omega (arith, at, same, low.same)) in
     record { attribute = omega (arith, at, same); above_least = omega (arith, l.0, less); up_to_greatest = omega (arith, h.1, e) }
 
-pub part_leaves : (n k : ℕ) (cuts : List LeafCut) (tree : Tree) (a : Area) → length a.lo ≡ k → All (λ r. Holds a r.key) (records_in tree) → AreChosen n k cuts tree → PartLeaves cuts tree a
-part_leaves n k [] tree a same held c = tt
-part_leaves n k (cut ∷ cuts) tree a same held c =
+pub part_leaves : (rule : CutRule) (n k : ℕ) (cuts : List LeafCut) (tree : Tree) (a : Area) → length a.lo ≡ k → All (λ r. Holds a r.key) (records_in tree) → AreChosen rule n k cuts tree → PartLeaves cuts tree a
+part_leaves rule n k [] tree a same held c = tt
+part_leaves rule n k (cut ∷ cuts) tree a same held c =
     let here = subst (λ (t : Tree). All (λ r. Holds a r.key) (records_in t)) c.0.leaf held in
     let plane = plane_cuts k cut.axis cut.value c.0.records a same here c.0.best.plane.may in
     let on = is_on cut.side cut.axis cut.value in (
@@ -47,7 +48,7 @@ part_leaves n k (cut ∷ cuts) tree a same held c =
         on = parts k cut.axis cut.value c.0.records c.0.best.plane.may cut.side;
         off = parts k cut.axis cut.value c.0.records c.0.best.plane.may (other_side cut.side);
       },
-      part_leaves n k cuts (going cut tree) (half_area cut a) (side_attributes cut.side cut.axis cut.value a ∙ same)
+      part_leaves rule n k cuts (going cut tree) (half_area cut a) (side_attributes cut.side cut.axis cut.value a ∙ same)
           (λ i d lt. holds_on cut.side cut.axis cut.value a (get_or (filter on (records_in tree)) i d) plane (All-filter on (λ (r : Record). Holds a r.key) (records_in tree) held i d lt) (filter_passes on (records_in tree) i d lt)) c.1,
     )
 
@@ -65,9 +66,9 @@ abbrev PartsOf : List LeafCut → Option (Tree × Area) → Type 0
 PartsOf cuts None = Unit {0}
 PartsOf cuts (Some part) = PartLeaves cuts part.0 part.1
 
-pub is_allowed : (n : ℕ) (page : LivePage) (path : List Side) (cuts : List LeafCut) → 6 ≤ n → n ≡ weight_of page.frag → path ≡ way_down n page.frag → AreInOrder page
-    → (q : Tree × Area) × (part_at path page.frag page.area ≡ Some q) × AreChosen n (length page.area.lo) cuts q.0 → IsThirds page path cuts → MayLeave page path cuts
-is_allowed n page path cuts full e way ordered c t =
+pub is_allowed : (rule : CutRule) (n : ℕ) (page : LivePage) (path : List Side) (cuts : List LeafCut) → 6 ≤ n → n ≡ weight_of page.frag → path ≡ way_down n page.frag → AreInOrder page
+    → (q : Tree × Area) × (part_at path page.frag page.area ≡ Some q) × AreChosen rule n (length page.area.lo) cuts q.0 → IsThirds page path cuts → MayLeave page path cuts
+is_allowed rule n page path cuts full e way ordered c t =
     let k = length page.area.lo in
     let g = of_page n page path full e way ordered in
     let end = at_end n k path page.frag page.area c.0 g c.1 in
@@ -77,9 +78,9 @@ is_allowed n page path cuts full e way ordered c t =
       part = t.part;
       fits = record {
         there = t.found;
-        parted = subst (λ (q : Option (Tree × Area)). PartsOf cuts q) t.found (subst (λ (q : Option (Tree × Area)). PartsOf cuts q) (sym c.1) (part_leaves n k cuts c.0.0 c.0.1 end.attributes (records_held n k c.0.0 c.0.1 end) c.2));
+        parted = subst (λ (q : Option (Tree × Area)). PartsOf cuts q) t.found (subst (λ (q : Option (Tree × Area)). PartsOf cuts q) (sym c.1) (part_leaves rule n k cuts c.0.0 c.0.1 end.attributes (records_held n k c.0.0 c.0.1 end) c.2));
         less = λ none bare.
-            let all = subst (λ (x : List LeafCut). AreChosen n k x c.0.0) bare c.2 in
+            let all = subst (λ (x : List LeafCut). AreChosen rule n k x c.0.0) bare c.2 in
             let whole = subst (λ (x : List Side). part_at x page.frag page.area ≡ Some c.0) none c.1 in
             let light = subst (Light n) (sym whole) all in
             omega (arith, light, e, full);
@@ -88,11 +89,11 @@ is_allowed n page path cuts full e way ordered c t =
     }
 
 -- so a page that weighs 6 or more may be split at what is chosen
-pub chosen_fits : (meta : Meta) (page : LivePage) (path : List Side) (cuts : List LeafCut) (fresh free_after : ℕ) → FitsFile meta page → IsChosen page path cuts → 6 ≤ weight_of page.frag → Allocates meta fresh free_after → FitsExtract meta page fresh path cuts free_after
-chosen_fits meta page path cuts fresh free_after made chosen full allocates =
+pub chosen_fits : (rule : CutRule) (meta : Meta) (page : LivePage) (path : List Side) (cuts : List LeafCut) (fresh free_after : ℕ) → FitsFile meta page → IsChosenBy rule page path cuts → 6 ≤ weight_of page.frag → Allocates meta fresh free_after → FitsExtract meta page fresh path cuts free_after
+chosen_fits rule meta page path cuts fresh free_after made chosen full allocates =
     let parts : (q : Tree × Area) × (part_at path page.frag page.area ≡ Some q) × _ = (chosen.part, chosen.found, chosen.chosen) in
-    let thirds = is_thirds (weight_of page.frag) page path cuts full refl chosen.way made.in_order parts in
-    let may = is_allowed (weight_of page.frag) page path cuts full refl chosen.way made.in_order parts thirds in
+    let thirds = is_thirds rule (weight_of page.frag) page path cuts full refl chosen.way made.in_order parts in
+    let may = is_allowed rule (weight_of page.frag) page path cuts full refl chosen.way made.in_order parts thirds in
     record {
       allocates = allocates;
       made = made;

@@ -15,6 +15,7 @@ use Rattle.hb_frag.specs.declared.leaves.Leaf.TheVariants.{Records, Child, Sibli
 use Rattle.hb_frag.specs.declared.pages.LivePage.{LivePage}
 use Rattle.hb_ops.specs.Cutting.{records_in}
 use Rattle.hb_ops.specs.declared.leaf_cuts.LeafCut.{LeafCut}
+use Rattle.hb_split.specs.declared.rules.CutRule.{CutRule}
 use Rattle.hb_split.specs.Choosing.{way_down, AreChosen, IsThirds}
 use Rattle.hb_split.specs.Steps.{AreOf, AddsCuts}
 use Rattle.hb_split.proofs.Thirds.{thirds}
@@ -76,40 +77,40 @@ records_at n k (Tip leaf) area e =
 records_at n k (Cut axis value l r) area e = record { attributes = λ i d lt. absurd (omega (arith, lt)); rising = λ i j d lt lt'. absurd (omega (arith, lt')) }
 
 -- what is chosen of the records is chosen of the tree
-pub chosen_of : (n k : ℕ) (cuts : List LeafCut) (t : Tree) (area : Area) → 6 ≤ n → IsEnd n k (t, area) → AreChosen n k cuts (Tip (Records (records_in t))) → AreChosen n k cuts t
-chosen_of n k cuts (Tip (Records records)) area full e c = c
-chosen_of n k [] (Tip (Child page)) area full e c = omega (arith, full)
-chosen_of n k (cut ∷ cuts) (Tip (Child page)) area full e c = let h = c.0.heavy in absurd (omega (arith, full, h))
-chosen_of n k [] (Tip (Sibling page)) area full e c = omega (arith, full)
-chosen_of n k (cut ∷ cuts) (Tip (Sibling page)) area full e c = let h = c.0.heavy in absurd (omega (arith, full, h))
-chosen_of n k [] (Cut axis value l r) area full e c = elim e.done [ inl le ↦ le | inr tip ↦ absurd (subst HasCuts tip.1 tt) ]
-chosen_of n k (cut ∷ cuts) (Cut axis value l r) area full e c = let h = c.0.heavy in absurd (omega (arith, full, h))
+pub chosen_of : (rule : CutRule) (n k : ℕ) (cuts : List LeafCut) (t : Tree) (area : Area) → 6 ≤ n → IsEnd n k (t, area) → AreChosen rule n k cuts (Tip (Records (records_in t))) → AreChosen rule n k cuts t
+chosen_of rule n k cuts (Tip (Records records)) area full e c = c
+chosen_of rule n k [] (Tip (Child page)) area full e c = omega (arith, full)
+chosen_of rule n k (cut ∷ cuts) (Tip (Child page)) area full e c = let h = c.0.heavy in absurd (omega (arith, full, h))
+chosen_of rule n k [] (Tip (Sibling page)) area full e c = omega (arith, full)
+chosen_of rule n k (cut ∷ cuts) (Tip (Sibling page)) area full e c = let h = c.0.heavy in absurd (omega (arith, full, h))
+chosen_of rule n k [] (Cut axis value l r) area full e c = elim e.done [ inl le ↦ le | inr tip ↦ absurd (subst HasCuts tip.1 tt) ]
+chosen_of rule n k (cut ∷ cuts) (Cut axis value l r) area full e c = let h = c.0.heavy in absurd (omega (arith, full, h))
 
-pub is_chosen : (n k : ℕ) (path : List Side) (tree : Tree) (area : Area) (part : Tree × Area) (records : List Record) (cuts : List LeafCut) → 6 ≤ n → GoesDown n k path tree area → part_at path tree area ≡ Some part → records ≡ records_in part.0 → AddsCuts n k records [] cuts
-    → (q : Tree × Area) × (part_at path tree area ≡ Some q) × AreChosen n k cuts q.0
-is_chosen n k path tree area part records cuts full g found e added = (
+pub is_chosen : (rule : CutRule) (n k : ℕ) (path : List Side) (tree : Tree) (area : Area) (part : Tree × Area) (records : List Record) (cuts : List LeafCut) → 6 ≤ n → GoesDown n k path tree area → part_at path tree area ≡ Some part → records ≡ records_in part.0 → AddsCuts rule n k records [] cuts
+    → (q : Tree × Area) × (part_at path tree area ≡ Some q) × AreChosen rule n k cuts q.0
+is_chosen rule n k path tree area part records cuts full g found e added = (
   part,
   found,
-  subst (λ (c : List LeafCut). AreChosen n k c part.0) (sym added.1)
-      (chosen_of n k added.0 part.0 part.1 full (at_end n k path tree area part g found) (subst (λ (r : List Record). AreChosen n k added.0 (Tip (Records r))) e added.2)),
+  subst (λ (c : List LeafCut). AreChosen rule n k c part.0) (sym added.1)
+      (chosen_of rule n k added.0 part.0 part.1 full (at_end n k path tree area part g found) (subst (λ (r : List Record). AreChosen rule n k added.0 (Tip (Records r))) e added.2)),
 )
 
-pub is_thirds : (n : ℕ) (page : LivePage) (path : List Side) (cuts : List LeafCut) → 6 ≤ n → n ≡ weight_of page.frag → path ≡ way_down n page.frag → AreInOrder page
-    → (q : Tree × Area) × (part_at path page.frag page.area ≡ Some q) × AreChosen n (length page.area.lo) cuts q.0 → IsThirds page path cuts
-is_thirds n page path cuts full e way ordered c =
+pub is_thirds : (rule : CutRule) (n : ℕ) (page : LivePage) (path : List Side) (cuts : List LeafCut) → 6 ≤ n → n ≡ weight_of page.frag → path ≡ way_down n page.frag → AreInOrder page
+    → (q : Tree × Area) × (part_at path page.frag page.area ≡ Some q) × AreChosen rule n (length page.area.lo) cuts q.0 → IsThirds page path cuts
+is_thirds rule n page path cuts full e way ordered c =
     let k = length page.area.lo in
     let end = at_end n k path page.frag page.area c.0 (of_page n page path full e way ordered) c.1 in
-    let t = thirds n k cuts c.0.0 c.0.1 full end.more c.2 in
+    let t = thirds rule n k cuts c.0.0 c.0.1 full end.more c.2 in
     let more = t.0 in
     let less = t.1 in
     record { part = c.0; found = c.1; more = omega (arith, more, e); less = omega (arith, less, e) }
 
-pub is_chosen_at : (n k k' : ℕ) (path : List Side) (tree : Tree) (area : Area) (part : Tree × Area) (records : List Record) (old new cuts : List LeafCut) → 6 ≤ n → GoesDown n k path tree area → part_at path tree area ≡ Some part → records ≡ records_in part.0
-    → k' ≡ k → old ≡ [] → cuts ≡ new → AddsCuts n k' records old new
-    → (q : Tree × Area) × (part_at path tree area ≡ Some q) × AreChosen n k cuts q.0
-is_chosen_at n k k' path tree area part records old new cuts full g found e ek eo ec added =
-    is_chosen n k path tree area part records cuts full g found e
-    (subst (λ (x : List LeafCut). AddsCuts n k records [] x) (sym ec) (subst (λ (x : List LeafCut). AddsCuts n k records x new) eo (subst (λ (x : ℕ). AddsCuts n x records old new) ek added)))
+pub is_chosen_at : (rule : CutRule) (n k k' : ℕ) (path : List Side) (tree : Tree) (area : Area) (part : Tree × Area) (records : List Record) (old new cuts : List LeafCut) → 6 ≤ n → GoesDown n k path tree area → part_at path tree area ≡ Some part → records ≡ records_in part.0
+    → k' ≡ k → old ≡ [] → cuts ≡ new → AddsCuts rule n k' records old new
+    → (q : Tree × Area) × (part_at path tree area ≡ Some q) × AreChosen rule n k cuts q.0
+is_chosen_at rule n k k' path tree area part records old new cuts full g found e ek eo ec added =
+    is_chosen rule n k path tree area part records cuts full g found e
+    (subst (λ (x : List LeafCut). AddsCuts rule n k records [] x) (sym ec) (subst (λ (x : List LeafCut). AddsCuts rule n k records x new) eo (subst (λ (x : ℕ). AddsCuts rule n x records old new) ek added)))
 
 pub records_held : (n k : ℕ) (t : Tree) (area : Area) → IsEnd n k (t, area) → All (λ r. Holds area r.key) (records_in t)
 records_held n k (Tip leaf) area e = (All-head IsInOrder (record { leaf = leaf; area = area }) [] e.ordered).inside

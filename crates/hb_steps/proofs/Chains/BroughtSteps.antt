@@ -102,6 +102,7 @@ works_bringing more s pages actor deed jobs each clear ready row queue may used 
         performs = record {
           says = done.says;
           lines = done.lines;
+          rule = done.rule;
           answered = done.answered;
           activity = done.activity;
           jobs = done.jobs;

@@ -199,6 +199,7 @@ module _ (ids : List ℕ) (came : List Use) (pins : List ℕ) (pages : List (ℕ
     record {
       says = refl;
       lines = refl;
+      rule = refl;
       answered = refl;
       activity = standing_set actor deed.next s.at_work;
       jobs = queue;

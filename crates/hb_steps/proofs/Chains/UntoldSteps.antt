@@ -18,6 +18,7 @@ performed_untold s actor deed jobs queue may used =
     let there : Performs (untold_scene s) (store_of s) actor deed (outcome_of deed.says) (untold_scene (after_as_it_is actor deed jobs s)) = record {
       says = refl;
       lines = refl;
+      rule = refl;
       answered = refl;
       activity = done.activity;
       jobs = queue;

@@ -32,7 +32,7 @@ use Rattle.hb_point.specs.SessionRows.{merges_due}
 use Rattle.hb_poster.specs.PosterRows.{DoesPlan, MayGrow, after_look, ends_job}
 use Rattle.hb_search.specs.SearchRows.{SearchGoesOn}
 use Rattle.hb_space.specs.Boxes.{Area, common_area, pieces_outside}
-use Rattle.hb_split.specs.Choosing.{IsChosen}
+use Rattle.hb_split.specs.Choosing.{IsChosenBy}
 use Rattle.hb_terms.specs.Merging.{IsMergePlan}
 use Rattle.hb_terms.specs.Plans.{IsPlan}
 
@@ -66,7 +66,7 @@ pub record PassesAt (page : LivePage) (p : List ℕ) (leaf : Leaf) : Type 0 wher
 -- What is to be shown of the rows of a step that latched no page.
 pub record ShowsAlone (s : Sight) (P : Activity → Deed → Type 0) : Type 0 where
   pub full : (line : Line) (held : ℕ) → s.meta.live ≡ s.meta.pages → P (at.SessionSplit line held) (answers_now line.number replies.Full)
-  pub splits : (line : Line) (held : ℕ) (page : LivePage) → s.page_at held ≡ Some page → (leaves : PartLeavesTo s (IsChosen page) page) →
+  pub splits : (line : Line) (held : ℕ) (page : LivePage) → s.page_at held ≡ Some page → (leaves : PartLeavesTo s (IsChosenBy s.rule page) page) →
       P (at.SessionSplit line held) (does (at.SessionPut line held leaves.fresh) (ops.Extract held leaves.fresh leaves.path leaves.cuts leaves.free_after) (record { kind = Post; level = 1; point = corner_of leaves } ∷ []))
   pub puts : (line : Line) (source fresh : ℕ) (rec : Record) → line.command ≡ Insert rec → (half : ℕ) → (half ≡ source) ⊎ (half ≡ fresh) → (page : LivePage) → s.page_at half ≡ Some page →
       P (at.SessionPut line source fresh) (takes_effect s.place line replies.Done (Some (ops.Put half rec)) [])
@@ -92,7 +92,7 @@ pub record ShowsAt (s : Sight) (id : ℕ) (page : LivePage) (P : Activity → De
   pub promotes : (job : Job) (parent : ℕ) → P (at.PosterPromote job parent) (moves_to (at.PosterAgain job parent) [])
   pub posts : (job : Job) (parent : ℕ) (above : LivePage) (path : List Side) (inner : ℕ) (area : Area) → s.page_at parent ≡ Some above → IsPlan above page job.point s.meta.icap (plans.Post path inner area) →
       P (at.PosterAgain job parent) (does at.PosterIdle (ops.Post parent path inner area) (job ∷ []))
-  pub parts : (job : Job) (parent : ℕ) (above : LivePage) → s.page_at parent ≡ Some above → IsPlan above page job.point s.meta.icap plans.SplitFirst → (leaves : PartLeavesTo s (IsChosen above) above) →
+  pub parts : (job : Job) (parent : ℕ) (above : LivePage) → s.page_at parent ≡ Some above → IsPlan above page job.point s.meta.icap plans.SplitFirst → (leaves : PartLeavesTo s (IsChosenBy s.rule above) above) →
       P (at.PosterAgain job parent) (does at.PosterIdle (ops.Extract parent leaves.fresh leaves.path leaves.cuts leaves.free_after) (record { kind = Post; level = job.level + 1; point = corner_of leaves } ∷ job ∷ []))
   pub walks_to_merge : (job : Job) (held : Option ℕ) (leaf : Leaf) → (page.level ≡ job.level → ¬ (LeadsBelow page job)) → PassesAt page job.point leaf →
       P (at.ConsolidatorWalk job held) (moves_to (at.ConsolidatorWalk job (Some id)) (posts_owed page job.point leaf))
@@ -215,7 +215,7 @@ pub record ShowsOps (s : Sight) (id : ℕ) (page : LivePage) (P : Activity → O
   pub deletes : (line : Line) (held : Option ℕ) (rest : List Area) (found : List Record) (p : List ℕ) (there : Record) → line.command ≡ Delete p → StandsThere page p there → P (at.SessionWalk line held rest found) (Some (ops.Del id p))
   pub grows : (job : Job) (fresh free_after : ℕ) → MayGrow s job page → s.meta.live < s.meta.pages → s.next ≡ Some (fresh, free_after) → P (at.PosterGrow job) (Some (ops.Grow fresh free_after))
   pub posts : (job : Job) (parent : ℕ) (above : LivePage) (path : List Side) (inner : ℕ) (area : Area) → s.page_at parent ≡ Some above → IsPlan above page job.point s.meta.icap (plans.Post path inner area) → P (at.PosterAgain job parent) (Some (ops.Post parent path inner area))
-  pub parts : (job : Job) (parent : ℕ) (above : LivePage) → s.page_at parent ≡ Some above → IsPlan above page job.point s.meta.icap plans.SplitFirst → (leaves : PartLeavesTo s (IsChosen above) above) →
+  pub parts : (job : Job) (parent : ℕ) (above : LivePage) → s.page_at parent ≡ Some above → IsPlan above page job.point s.meta.icap plans.SplitFirst → (leaves : PartLeavesTo s (IsChosenBy s.rule above) above) →
       P (at.PosterAgain job parent) (Some (ops.Extract parent leaves.fresh leaves.path leaves.cuts leaves.free_after))
   pub merges : (job : Job) (parent keep gone : ℕ) → MergesPair s parent keep gone page → P (at.ConsolidatorDecide job parent keep gone) (Some (ops.Merge parent keep gone))
 

@@ -4,7 +4,7 @@ use Rattle.std.proofs.Common.{IsSome, append-nil}
 use Rattle.hb_steps.specs.declared.outcomes.Outcome.TheVariants as outcomes
 use Rattle.hb_steps.proofs.Facts.StepKinds.{each_kind, FlushesMore, ready_kind}
 use Rattle.hb_steps.specs.Fetching.{MustStay}
-use Rattle.hb_steps.specs.Laws.{OrderGrows}
+use Rattle.hb_steps.specs.Laws.{OrderGrows, RuleStays}
 use Rattle.hb_steps.specs.Machines.{with_activity}
 use Rattle.hb_lemmas.proofs.Booleans.{at_itself, at_other}
 
@@ -22,6 +22,7 @@ others_next actor next old new stood other another = stood other ∙ at_other ot
 -- All but the disk is as it was, and what has to stay in memory is there.
 pub record KeepsAllButDisk (m new : Machine) : Type 0 where
   pub lines : new.lines ≡ m.lines
+  pub rule : new.rule ≡ m.rule
   pub answered : new.answered ≡ m.answered
   pub activity : new.activity ≡ m.activity
   pub jobs : new.jobs ≡ m.jobs
@@ -43,16 +44,16 @@ module _ (m : Machine) (actor : ℕ) (outcome : Outcome) (new : Machine) where
   same_answers fetched deed performs none = performs.answered ∙ ap (λ (l : List Answered). m.answered ++ l) none ∙ append-nil m.answered
 
   pub stays_so : (said : Outcome) → StaysSo m said outcome new → KeepsAllButDisk m new
-  stays_so said (says, is) = keeps_by m m new is (record { lines = refl; answered = refl; activity = refl; jobs = refl; order = refl; memory = λ id page must there. there })
+  stays_so said (says, is) = keeps_by m m new is (record { lines = refl; rule = refl; answered = refl; activity = refl; jobs = refl; order = refl; memory = λ id page must there. there })
 
   pub fails_so : {most : ℕ} → FailsToWrite m most outcome new → KeepsAllButDisk m new
-  fails_so fails = keeps_by m _ new fails.stops (record { lines = refl; answered = refl; activity = refl; jobs = refl; order = refl; memory = λ id page must there. there })
+  fails_so fails = keeps_by m _ new fails.stops (record { lines = refl; rule = refl; answered = refl; activity = refl; jobs = refl; order = refl; memory = λ id page must there. there })
 
   pub flushes_so : {page : ℕ} {due : Outcome} → WritesOldest m page due outcome new → KeepsAllButDisk m new
-  flushes_so well = keeps_by m _ new well.leaves (record { lines = refl; answered = refl; activity = refl; jobs = refl; order = refl; memory = λ id page must there. there })
+  flushes_so well = keeps_by m _ new well.leaves (record { lines = refl; rule = refl; answered = refl; activity = refl; jobs = refl; order = refl; memory = λ id page must there. there })
 
   pub turns_so : {due : Outcome} → BeginsTurn m due outcome new → KeepsAllButDisk m new
-  turns_so turns = keeps_by m _ new turns.leaves (record { lines = refl; answered = refl; activity = refl; jobs = refl; order = refl; memory = λ id page must there. there })
+  turns_so turns = keeps_by m _ new turns.leaves (record { lines = refl; rule = refl; answered = refl; activity = refl; jobs = refl; order = refl; memory = λ id page must there. there })
 
   pub more_so : FlushesMore m outcome new → KeepsAllButDisk m new
   more_so (none, inl (page, oldest, due, quiet, well)) = flushes_so well
@@ -60,11 +61,11 @@ module _ (m : Machine) (actor : ℕ) (outcome : Outcome) (new : Machine) where
   more_so (none, inr (inr (calls, left, fails))) = fails_so fails
 
   pub forces_so : (said : Outcome) → ForcesAll m said outcome new → KeepsAllButDisk m new
-  forces_so said (inl (says, is)) = keeps_by m _ new is (record { lines = refl; answered = refl; activity = refl; jobs = refl; order = refl; memory = λ id page must there. there })
+  forces_so said (inl (says, is)) = keeps_by m _ new is (record { lines = refl; rule = refl; answered = refl; activity = refl; jobs = refl; order = refl; memory = λ id page must there. there })
   forces_so said (inr badly) = fails_so badly.1
 
   pub meets_so : MeetsBadPage m actor outcome new → KeepsAllButDisk m new
-  meets_so meets = keeps_by m _ new meets.stops (record { lines = refl; answered = refl; activity = refl; jobs = refl; order = refl; memory = λ id page must there. meets.brings.stays id must (subst (λ (o : Option Page). IsSome o) (sym there) refl) ∙ there })
+  meets_so meets = keeps_by m _ new meets.stops (record { lines = refl; rule = refl; answered = refl; activity = refl; jobs = refl; order = refl; memory = λ id page must there. meets.brings.stays id must (subst (λ (o : Option Page). IsSome o) (sym there) refl) ∙ there })
 
   same : (said : Outcome) → StaysSo m said outcome new → HasWay m actor outcome new
   same said so = inl (stays_so said so)
@@ -111,3 +112,12 @@ order_grows m actor outcome new step = by (way_of m actor outcome new step)
     by : HasWay m actor outcome new → (new.lines ≡ m.lines) × ((new.order ≡ m.order) ⊎ ((entry : Entry) × (new.order ≡ m.order ++ entry ∷ [])))
     by (inl keeps) = (keeps.lines, inl keeps.order)
     by (inr (fetched, deed, performs)) = (performs.lines, joined_by m.order deed.joins new.order performs.order)
+
+-- ---- and the rule stays
+
+pub rule_stays : RuleStays
+rule_stays m actor outcome new step = by (way_of m actor outcome new step)
+  where
+    by : HasWay m actor outcome new → new.rule ≡ m.rule
+    by (inl keeps) = keeps.rule
+    by (inr (fetched, deed, performs)) = performs.rule

@@ -18,7 +18,7 @@ use Rattle.hb_ops.specs.Allocating.{Allocates}
 use Rattle.hb_ops.specs.Recording.{put_page}
 use Rattle.hb_ops.specs.Standing.{StandsNot, StandsThere}
 use Rattle.hb_split.proofs.Facts.Allowed.{chosen_fits}
-use Rattle.hb_split.specs.Choosing.{IsChosen}
+use Rattle.hb_split.specs.Choosing.{IsChosenBy}
 use Rattle.hb_poster.proofs.Facts.ParentWeights.{heavy_parent}
 use Rattle.hb_terms.proofs.Facts.Owing.{plan_fits}
 use Rattle.hb_terms.specs.Plans.{IsPlan}
@@ -48,10 +48,10 @@ module _ (st : StoreState) (keeps : KeepsPages st) where
   grow_allowed fresh free_after room next low = record { allocates = allocates fresh free_after room next; height = low }
 
   -- a part that is chosen may leave a page that weighs 6 or more
-  pub split_allowed : (id : ℕ) (page : LivePage) (s : Sight) (leaves : PartLeavesTo s (IsChosen page) page) → s.meta ≡ st.meta → IsNext st leaves.fresh leaves.free_after → if_live (in_memory st id) ≡ Some page → 6 ≤ weight_of page.frag → IsAllowedHere st (ops.Extract id leaves.fresh leaves.path leaves.cuts leaves.free_after)
+  pub split_allowed : (id : ℕ) (page : LivePage) (s : Sight) (leaves : PartLeavesTo s (IsChosenBy s.rule page) page) → s.meta ≡ st.meta → IsNext st leaves.fresh leaves.free_after → if_live (in_memory st id) ≡ Some page → 6 ≤ weight_of page.frag → IsAllowedHere st (ops.Extract id leaves.fresh leaves.path leaves.cuts leaves.free_after)
   split_allowed id page s leaves meta next live full =
       by_read (ops.Extract id leaves.fresh leaves.path leaves.cuts leaves.free_after) id page _ _ live
-      (chosen_fits st.meta page leaves.path leaves.cuts leaves.fresh leaves.free_after (live_good st keeps.framed id page live).1 leaves.chosen full
+      (chosen_fits s.rule st.meta page leaves.path leaves.cuts leaves.fresh leaves.free_after (live_good st keeps.framed id page live).1 leaves.chosen full
       (allocates leaves.fresh leaves.free_after (subst (λ (x : Meta). x.live < x.pages) meta leaves.free) next))
 
   -- what a plan posts may be posted
@@ -100,7 +100,7 @@ module _ (m : Machine) (actor : ℕ) (may : ℕ → Type 0) (fetched : StoreStat
       put_allowed fetched keeps half rec here.home.page (stays_live half here.home.page put_into (half_held m actor one fit line source fresh half is either) here.home.live put_live) here.home.absent (subst (λ (n : ℕ). weight_of (put_page rec here.home.page).frag ≤ n) dcap_same here.room)
 
   -- a page may be parted that weighs enough
-  part_allowed : (id : ℕ) (page : LivePage) (leaves : PartLeavesTo (sight m') (IsChosen page) page) → if_live (in_memory fetched id) ≡ Some page → 6 ≤ weight_of page.frag → IsAllowedHere fetched (ops.Extract id leaves.fresh leaves.path leaves.cuts leaves.free_after)
+  part_allowed : (id : ℕ) (page : LivePage) (leaves : PartLeavesTo (sight m') (IsChosenBy m'.rule page) page) → if_live (in_memory fetched id) ≡ Some page → 6 ≤ weight_of page.frag → IsAllowedHere fetched (ops.Extract id leaves.fresh leaves.path leaves.cuts leaves.free_after)
   part_allowed id page leaves live full = split_allowed fetched keeps id page (sight m') leaves refl (is_next_number fetched leaves.fresh leaves.free_after leaves.next) live full
 
   shown_row : (wanted : Option Wanted) (deed : Deed) → wanted_by m actor ≡ wanted → Row (m.activity actor) wanted m' deed → IfSome deed.op (λ op. NamesItsPages m op → HalfHasRoom m actor op → IsAllowedHere fetched op)

@@ -1,4 +1,5 @@
 -- A machine that has taken no step keeps what every machine keeps; and there is one over each sound file.
+use Rattle.hb_split.specs.declared.rules.CutRule.{CutRule}
 use Rattle.hb_steps.proofs.Machines.Names.{◌≡◌, ◌≢◌, ◌⊎◌, inl, inr, ℕ, ◌≤◌, ◌==◌, cond, List, [], length, All, Option, Some, None, IfSome, IsTrue, refl, sym, ap, ◌∙◌, subst, arith, cases_Bool, eqb-true, All-nil, Mode, Answered, Line, Activity, Job, Class, Sessions, Posters, Consolidators, Flushers, class_of, job_in_work, line_in_hand, BoxLock, lock_of, walk_held, KnowsRoom, LatchesFit, AttributesFit, IsBoxOf, JobFits, LineFits, boxes_left, class_for, MachineKeeps, NamesKnown, merging_at, Machine, modes, BeginningKeepsAll, IsBegun, IsActor, contents_of, next_line, Use, Entry, LogState}
 use Rattle.std.proofs.Common.{AllPairs, is_some}
 use Rattle.std.specs.Prelude.{IsSomeAnd}
@@ -256,9 +257,10 @@ beginning_keeps_all m s over = record {
 -- ---- there is one
 
 -- a machine that has taken no step, over this file
-abbrev fresh_machine : FileState → ℕ → List Line → ℕ → Machine
-fresh_machine s turn lines clock = record {
+abbrev fresh_machine : FileState → ℕ → CutRule → List Line → ℕ → Machine
+fresh_machine s turn rule lines clock = record {
   lines = lines;
+  rule = rule;
   answered = [];
   activity = λ actor. idle_of (class_for actor);
   jobs = [];
@@ -288,8 +290,8 @@ stands_within s turn sound layout few =
     }
 
 pub beginning_exists : BeginningExists
-beginning_exists s turn lines clock sound layout few rising bodies fit = (
-  fresh_machine s turn lines clock,
+beginning_exists s turn rule lines clock sound layout few rising bodies fit = (
+  fresh_machine s turn rule lines clock,
   record {
     begun = record {
       begun = record {
@@ -322,6 +324,7 @@ beginning_exists s turn lines clock sound layout few rising bodies fit = (
       sound = sound;
     };
     turn_is = refl;
+    rule_is = refl;
     lines_are = refl;
     clock_is = refl;
   },

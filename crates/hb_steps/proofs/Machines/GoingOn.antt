@@ -5,7 +5,7 @@ use Rattle.std.proofs.lemmas.List.Elements.{All-weaker}
 use Rattle.hb_steps.specs.declared.outcomes.Outcome.TheVariants as outcomes
 use Rattle.hb_steps.proofs.Memory.Moments.{answers_are_timed, clock_moves}
 use Rattle.hb_steps.proofs.Orders.PendingKept.{grown_by}
-use Rattle.hb_steps.proofs.Facts.Ways.{order_grows}
+use Rattle.hb_steps.proofs.Facts.Ways.{order_grows, rule_stays}
 use Rattle.hb_steps.specs.Performing.{given_by}
 use Rattle.hb_steps.specs.Laws.{MovesClock}
 use Rattle.hb_steps.specs.SteppingLaws.{HasGoneOn, IsBetween, StepsGoOn, StoppedStays}
@@ -37,6 +37,7 @@ one_step m actor outcome new step =
     let clock = never_back m actor outcome new step in
     record {
       lines = grows.0;
+      rule = rule_stays m actor outcome new step;
       entries = more.0;
       order = more.1;
       answers = given_by outcome new.clock;
@@ -51,6 +52,7 @@ both_steps m next new first second =
     let further = second.clock in
     record {
       lines = second.lines ∙ first.lines;
+      rule = second.rule ∙ first.rule;
       entries = first.entries ++ second.entries;
       order = second.order ∙ ap (λ (l : List Entry). l ++ second.entries) first.order ∙ append_assoc m.order first.entries second.entries;
       answers = first.answers ++ second.answers;
@@ -66,6 +68,7 @@ no_step m new is =
     let clock = ap (λ (x : Machine). x.clock) is in
     record {
       lines = ap (λ (x : Machine). x.lines) is;
+      rule = ap (λ (x : Machine). x.rule) is;
       entries = [];
       order = ap (λ (x : Machine). x.order) is ∙ sym (append-nil m.order);
       answers = [];

@@ -131,7 +131,7 @@ module _ (m : Machine) (actor : ℕ) (may : ℕ → Type 0) (fetched : StoreStat
   six = let low = within.layout.dcap_least in omega (arith, low, least)
 
   thirds : IsThirds page row.leaves.path row.leaves.cuts
-  thirds = is_thirds (weight_of page.frag) page row.leaves.path row.leaves.cuts (omega (arith, six, light, full, one_more)) refl row.leaves.chosen.way well.in_order (row.leaves.chosen.part, row.leaves.chosen.found, row.leaves.chosen.chosen)
+  thirds = is_thirds m.rule (weight_of page.frag) page row.leaves.path row.leaves.cuts (omega (arith, six, light, full, one_more)) refl row.leaves.chosen.way well.in_order (row.leaves.chosen.part, row.leaves.chosen.found, row.leaves.chosen.chosen)
 
   abbrev reach : Tree × Area → ℕ
   reach part = weight_of (reached row.leaves.cuts part.0 part.1).0

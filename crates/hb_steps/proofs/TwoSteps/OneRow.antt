@@ -28,7 +28,7 @@ use Rattle.hb_point.specs.SplitRows.{Splits}
 use Rattle.hb_poster.specs.PosterRows.{Arrives, DoesPlan, GrowsFile, GrowsNot, LooksAgain, LooksAtChild, MayGrow, PosterPasses, after_look}
 use Rattle.hb_search.specs.SearchRows.{Gathers, SearchGoesOn}
 use Rattle.hb_space.specs.Boxes.{holds}
-use Rattle.hb_split.specs.Choosing.{AreChosen, IsChosen}
+use Rattle.hb_split.specs.Choosing.{AreChosen, IsChosenBy}
 use Rattle.hb_terms.specs.Plans.{IsPlan}
 use Rattle.hb_activity.proofs.Facts.OneLeaf.{one_pass}
 use Rattle.hb_point.proofs.Facts.OneCommand.{one_command}
@@ -111,7 +111,7 @@ module _ (m : Machine) (f g : StoreState) (meta : f.meta ≡ g.meta) (agree : (i
   abbrev leaving : (ℕ → Activity) → ℕ → (List ℕ → List Job) → ℕ → List Side → List LeafCut → ℕ → List ℕ → Deed
   leaving next source adds fresh path cuts after corner = does (next fresh) (ops.Extract source fresh path cuts after) (adds corner)
 
-  one_leaving : (next : ℕ → Activity) (source : ℕ) (adds : List ℕ → List Job) (page : LivePage) (a : PartLeavesTo (sight m1) (IsChosen page) page) (b : PartLeavesTo (sight m2) (IsChosen page) page)
+  one_leaving : (next : ℕ → Activity) (source : ℕ) (adds : List ℕ → List Job) (page : LivePage) (a : PartLeavesTo (sight m1) (IsChosenBy m.rule page) page) (b : PartLeavesTo (sight m2) (IsChosenBy m.rule page) page)
       → leaving next source adds a.fresh a.path a.cuts a.free_after (corner_of a) ≡ leaving next source adds b.fresh b.path b.cuts b.free_after (corner_of b)
   one_leaving next source adds page a b =
       let numbers = one_number f g a.fresh b.fresh a.free_after b.free_after meta agree a.next b.next in
@@ -119,9 +119,9 @@ module _ (m : Machine) (f g : StoreState) (meta : f.meta ≡ g.meta) (agree : (i
       let part : a.part ≡ b.part = same_Some a.part b.part (sym a.there ∙ ap (λ (x : List Side). part_at x page.frag page.area) path ∙ b.there) in
       let by_a : a.chosen.part ≡ b.part = same_Some a.chosen.part b.part (sym a.chosen.found ∙ ap (λ (x : List Side). part_at x page.frag page.area) path ∙ b.there) in
       let by_b : b.chosen.part ≡ b.part = same_Some b.chosen.part b.part (sym b.chosen.found ∙ b.there) in
-      let cuts = one_choice (weight_of page.frag) (length page.area.lo) a.cuts b.cuts b.part.0
-      (subst (λ (x : Tree × Area). AreChosen (weight_of page.frag) (length page.area.lo) a.cuts x.0) by_a a.chosen.chosen)
-      (subst (λ (x : Tree × Area). AreChosen (weight_of page.frag) (length page.area.lo) b.cuts x.0) by_b b.chosen.chosen) in
+      let cuts = one_choice m.rule (weight_of page.frag) (length page.area.lo) a.cuts b.cuts b.part.0
+      (subst (λ (x : Tree × Area). AreChosen m.rule (weight_of page.frag) (length page.area.lo) a.cuts x.0) by_a a.chosen.chosen)
+      (subst (λ (x : Tree × Area). AreChosen m.rule (weight_of page.frag) (length page.area.lo) b.cuts x.0) by_b b.chosen.chosen) in
       let corner : corner_of a ≡ corner_of b = ap (λ (x : Tree × Area). (reached a.cuts x.0 x.1).1.lo) part ∙ ap (λ (c : List LeafCut). (reached c b.part.0 b.part.1).1.lo) cuts in
       ap (λ n. leaving next source adds n a.path a.cuts a.free_after (corner_of a)) numbers.0
       ∙ ap (λ x. leaving next source adds b.fresh x a.cuts a.free_after (corner_of a)) path
@@ -136,7 +136,7 @@ module _ (m : Machine) (f g : StoreState) (meta : f.meta ≡ g.meta) (agree : (i
   full_too free none = omega (arith, none, free, ap (λ (x : Meta). x.live) meta, ap (λ (x : Meta). x.pages) meta)
 
   abbrev SplitTo : ℕ → (ℕ → Activity) → (List ℕ → List Job) → Deed → LivePage → Type 0
-  SplitTo source next adds d page = (leaves : PartLeavesTo (sight m1) (IsChosen page) page) × (d ≡ leaving next source adds leaves.fresh leaves.path leaves.cuts leaves.free_after (corner_of leaves))
+  SplitTo source next adds d page = (leaves : PartLeavesTo (sight m1) (IsChosenBy m.rule page) page) × (d ≡ leaving next source adds leaves.fresh leaves.path leaves.cuts leaves.free_after (corner_of leaves))
 
   one_split : (line : Line) (held : ℕ) (d e : Deed) → Splits (sight m1) line held d → Splits (sight m2) line held e → d ≡ e
   one_split line held d e a b =

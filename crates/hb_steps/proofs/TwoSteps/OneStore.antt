@@ -29,6 +29,7 @@ use Rattle.hb_steps.proofs.Facts.Ways.{nothing_done}
 pub one_of_same : (new next : Machine) → new ≡ next → AreOne new next
 one_of_same new next is = subst (AreOne new) is (record {
   lines = refl;
+  rule = refl;
   answered = refl;
   activity = λ actor. refl;
   jobs = refl;
@@ -246,6 +247,7 @@ module _ (f g : StoreState) (alike : KeepsAllButPages f g) (agree : Agree f g) w
       λ id. first.tied.there id ∙ ap (λ (u : List Use). is_some (frame_of u id)) uses ∙ sym (second.tied.there id) in
       record {
         lines = first.lines ∙ sym second.lines;
+        rule = first.rule ∙ sym second.rule;
         answered = first.answered ∙ sym second.answered;
         activity = λ who. first.activity who ∙ sym (second.activity who);
         jobs = one_queue deed m.jobs new.jobs next.jobs first.jobs second.jobs;

@@ -1,11 +1,12 @@
-use Rattle.std.proofs.Common.{List, [], ◌∷◌, ℕ, ◌+◌, None, ap, ◌∙◌}
+use Rattle.std.proofs.Common.{List, [], ◌∷◌, ℕ, ◌+◌, None, ap, sym, subst, ◌∙◌}
 use Rattle.hb_activity.specs.Classes.{HasJob}
 use Rattle.hb_activity.specs.Deciding.{joined_by, said_by}
 use Rattle.hb_activity.specs.declared.jobs.JobKind.TheVariants.{Post}
 use Rattle.hb_poster.proofs.posting.split.Goals as goal
+use Rattle.hb_split.specs.Choosing.{IsChosenBy}
 
 pub returns : goal.returns
-returns c s room number =
+returns c s by room number =
     let may = c.in_ok-part.ensures.allowed in
     let told = c.does_for_both.ensures in
     let job = c.args.job in
@@ -14,7 +15,7 @@ returns c s room number =
       leaves = record {
         path = c.in_ok-part.part.path;
         cuts = c.in_ok-part.part.cuts;
-        chosen = c.in_ok-part.ensures.exact;
+        chosen = subst (λ rule. IsChosenBy rule c.args.over.now c.in_ok-part.part.path c.in_ok-part.part.cuts) (sym by) c.in_ok-part.ensures.exact;
         part = may.part;
         there = may.fits.there;
         fresh = c.args.fresh;

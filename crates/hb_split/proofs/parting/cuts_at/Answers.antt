@@ -23,5 +23,5 @@ add_cuts-requires-clause-records c =
 pub returns-clause-chosen : goal.returns-clause-chosen
 returns-clause-chosen c =
     let g = of_page c.args.total c.args.page.now c.args.path.now c.requires.full c.requires.weight c.requires.way c.requires.in_order in
-    is_chosen_at c.args.total (length c.args.page.now.area.lo) c.attributes-attributes.result c.args.path.now c.args.page.now.frag c.args.page.now.area (c.in-Some.frag.now, c.in-Some.field-0-1) c.records_in.result.now c.new-cuts.result.items c.add_cuts.new.cuts.items c.new.result
+    is_chosen_at c.args.rule c.args.total (length c.args.page.now.area.lo) c.attributes-attributes.result c.args.path.now c.args.page.now.frag c.args.page.now.area (c.in-Some.frag.now, c.in-Some.field-0-1) c.records_in.result.now c.new-cuts.result.items c.add_cuts.new.cuts.items c.new.result
     c.requires.full g c.in-Some.ensures.value c.records_in.ensures (c.attributes-attributes.ensures.value ∙ ap length c.lo.ensures.value) c.new-cuts.ensures.items c.new.ensures c.in_ok-add_cuts-in-Some.ensures

@@ -13,4 +13,4 @@ candidate_at-requires-clause-few c =
     omega (arith, few, same, e)
 
 pub returns : goal.returns
-returns c = best_plane_at c.args.axis c.args.records.now c.in_ok-values.values.items c.deref.result.now c.deref-in-Some.result.now c.best_step.result c.in-Some.at c.candidate_at.result c.in_ok-values.ensures c.deref.ensures.value c.deref-in-Some.ensures.value c.best_step.ensures c.in-Some.is c.candidate_at.ensures.axis c.candidate_at.ensures.value c.candidate_at.ensures.side c.candidate_at.ensures.count
+returns c = best_plane_at c.args.rule c.args.axis c.args.records.now c.in_ok-values.values.items c.deref.result.now c.deref-in-Some.result.now c.best_step.result c.in-Some.at c.candidate_at.result c.in_ok-values.ensures c.deref.ensures.value c.deref-in-Some.ensures.value c.best_step.ensures c.in-Some.is c.candidate_at.ensures.axis c.candidate_at.ensures.value c.candidate_at.ensures.side c.candidate_at.ensures.count c.candidate_at.ensures.preference

@@ -7,9 +7,9 @@ use Rattle.hb_core.proofs.state.Core.ask_merger.Goals as goal
 
 pub returns-then-only_moves_to_merge-clause-row : goal.returns-then-only_moves_to_merge-clause-row
 returns-then-only_moves_to_merge-clause-row g c =
-    merger_back (seen_as c.args.self.now.store) c.args.state (number_of_row c.args.state c.args.wanted) c.page_of-id.result c.page_of-id.ensures (deed_of c.args.state c.move_to_merge.result) c.move_to_merge.ensures
+    merger_back c.args.self.now.rule (seen_as c.args.self.now.store) c.args.state (number_of_row c.args.state c.args.wanted) c.page_of-id.result c.page_of-id.ensures (deed_of c.args.state c.move_to_merge.result) c.move_to_merge.ensures
 
 pub returns-clause-row : goal.returns-clause-row
 returns-clause-row g c =
     IfOk-weaker c.pair.result _ _ (λ next.
-    merger_back (seen_as c.args.self.now.store) c.args.state (number_of_row c.args.state c.args.wanted) c.page_of-id.result c.page_of-id.ensures (deed_of c.args.state next)) c.pair.ensures
+    merger_back c.args.self.now.rule (seen_as c.args.self.now.store) c.args.state (number_of_row c.args.state c.args.wanted) c.page_of-id.result c.page_of-id.ensures (deed_of c.args.state next)) c.pair.ensures

@@ -12,9 +12,9 @@ move_to_post-requires-clause-asks g c = (c.args.free, subst (λ (k : ℕ). AsksP
 
 pub returns-then-only_moves_on-clause-row : goal.returns-then-only_moves_on-clause-row
 returns-then-only_moves_on-clause-row g c =
-    poster_back (seen_as c.args.self.now.store) c.args.state (number_of_row c.args.state c.args.wanted) c.page_of-id.result c.page_of-id.ensures (deed_of c.args.state c.move_to_post.result) c.move_to_post.ensures
+    poster_back c.args.self.now.rule (seen_as c.args.self.now.store) c.args.state (number_of_row c.args.state c.args.wanted) c.page_of-id.result c.page_of-id.ensures (deed_of c.args.state c.move_to_post.result) c.move_to_post.ensures
 
 pub returns-clause-row : goal.returns-clause-row
 returns-clause-row g c =
     IfOk-weaker c.post.result _ _ (λ next.
-    poster_back (seen_as c.args.self.now.store) c.args.state (number_of_row c.args.state c.args.wanted) c.page_of-id.result c.page_of-id.ensures (deed_of c.args.state next)) c.post.ensures
+    poster_back c.args.self.now.rule (seen_as c.args.self.now.store) c.args.state (number_of_row c.args.state c.args.wanted) c.page_of-id.result c.page_of-id.ensures (deed_of c.args.state next)) c.post.ensures

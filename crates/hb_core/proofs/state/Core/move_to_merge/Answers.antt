@@ -4,7 +4,7 @@ use Rattle.hb_core.proofs.Running.SeenWorkers.{merge_asked, merge_moved}
 use Rattle.hb_core.proofs.state.Core.move_to_merge.Goals as goal
 
 pub descend-requires-clause-asked : goal.descend-requires-clause-asked
-descend-requires-clause-asked g c = merge_asked (seen_as c.args.self.now.store) c.args.state c.args.id c.requires.asks c.in-Some.view c.in-Some.ensures.page c.requires.moves
+descend-requires-clause-asked g c = merge_asked c.args.self.now.rule (seen_as c.args.self.now.store) c.args.state c.args.id c.requires.asks c.in-Some.view c.in-Some.ensures.page c.requires.moves
 
 pub returns : goal.returns
-returns g c = merge_moved (seen_as c.args.self.now.store) c.args.state c.args.id c.requires.asks c.in-Some.view c.in-Some.ensures.page (deed_of c.args.state c.descend.result) c.descend.ensures.row
+returns g c = merge_moved c.args.self.now.rule (seen_as c.args.self.now.store) c.args.state c.args.id c.requires.asks c.in-Some.view c.in-Some.ensures.page (deed_of c.args.state c.descend.result) c.descend.ensures.row

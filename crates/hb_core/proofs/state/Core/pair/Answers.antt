@@ -8,5 +8,5 @@ use Rattle.hb_core.proofs.state.Core.pair.Goals as goal
 pub returns : goal.returns
 returns g c =
     IfOk-weaker c.next.result _ _ (λ next row.
-    merger_said (seen_as c.args.self.now.store) c.args.state c.args.id c.args.id _ _ _ c.meta-meta.result.now
+    merger_said c.args.self.now.rule (seen_as c.args.self.now.store) c.args.state c.args.id c.args.id _ _ _ c.meta-meta.result.now
     refl c.in_ok-page.ensures (c.as_ref-above.ensures.value ∙ c.in_ok-other.ensures) (c.as_ref-kept.ensures.value ∙ c.in_ok-second.ensures) c.meta-meta.ensures.meta (deed_of c.args.state next) row) c.next.ensures.row
