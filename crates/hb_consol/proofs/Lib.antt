@@ -7,3 +7,4 @@ pub mod MadeRows
 pub mod AllowedMerges
 pub mod ChildrenBehind
 pub mod ViewedParents
+pub mod SeenPairs

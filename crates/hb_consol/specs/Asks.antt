@@ -1,10 +1,12 @@
 -- What the decider of the consolidator may rely on, and where it asks for memory.
-use Rattle.std.specs.Prelude.{◌≡◌, ◌≢◌, ℕ, ◌<◌, List, [], ◌∷◌, Option, Some, None}
+use Rattle.std.specs.Prelude.{◌≡◌, ◌≢◌, ℕ, ◌<◌, List, [], ◌∷◌, All, Option, Some, None, IfSome}
 use Rattle.hb_layout.specs.declared.meta.Meta.{Meta}
 use Rattle.hb_layout.specs.Limits.{IsLayout}
 use Rattle.hb_frag.specs.declared.pages.LivePage.{LivePage}
 use Rattle.hb_frag.specs.declared.pages.Page.{Page}
+use Rattle.hb_frag.specs.Leaves.{IsPointer, leaves}
 use Rattle.hb_frag.specs.Rules.{capacity_of}
+use Rattle.hb_ops.specs.Files.{if_live}
 use Rattle.hb_ops.specs.Merging.{MayMerge}
 use Rattle.hb_ops.specs.Sound.{FitsFile}
 use Rattle.hb_activity.specs.declared.jobs.Job.{Job}
@@ -62,3 +64,17 @@ OnlyMovesToMerge other = ⊥
 -- The page is in use, fits a file, and the decider may be asked of it alone.
 abbrev pub IsAskedToMerge : Activity → Page → Type 0
 IsAskedToMerge activity page = (meta : Meta) × IsLayout meta × IsLiveAnd page (λ page. FitsFile meta page × MayAskToMerge activity meta page None None)
+
+-- ---- pages that are read from their bytes
+
+-- Where a pair is decided the parent has no records.
+abbrev pub HasParentAbove : Activity → Option LivePage → Type 0
+HasParentAbove (at.ConsolidatorDecide job parent keep gone) first = IfSome first (λ above. All IsPointer (leaves above.frag))
+HasParentAbove other first = Unit {0}
+
+-- The page is in use, fits a file of this layout, and the decider may be asked of it, with the parent and the page to keep, where
+-- there are such.
+pub record IsAskedToMergeAt (activity : Activity) (meta : Meta) (page : Page) (first second : Option Page) : Type 0 where
+  pub layout : IsLayout meta
+  pub page_asked : IsLiveAnd page (λ own. FitsFile meta own × MayAskToMerge activity meta own (if_live first) (if_live second))
+  pub parent : HasParentAbove activity (if_live first)

@@ -4,3 +4,4 @@ pub mod Laws
 pub mod Examples
 pub mod Asks
 pub mod Doing
+pub mod Viewed

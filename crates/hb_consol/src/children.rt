@@ -66,8 +66,8 @@ pub(crate) fn child_behind(above: &LivePage, child: u32) -> Option<u32>
     found_by(sought_in(above, child, &above.frag, Sought::Before))
 }
 
-// The child that a search has found.
-fn found_by(so_far: Sought) -> Option<u32>
+/// The child that a search has found.
+pub(crate) fn found_by(so_far: Sought) -> Option<u32>
     ensures { result ≡ found_by so_far }
 {
     match so_far {
@@ -193,8 +193,8 @@ fn earlier_at(leaf: &Leaf, name: u32, other: u32) -> Earlier
     }
 }
 
-// Which of two names this one is.
-fn earlier_on(page: u32, name: u32, other: u32) -> Earlier
+/// Which of two names this one is.
+pub(crate) fn earlier_on(page: u32, name: u32, other: u32) -> Earlier
     ensures { result ≡ earlier_of name other (page ∷ []) }
 {
     if page == name {

@@ -4,8 +4,9 @@
 //! The one contract: a step of the consolidator does one of these rows, which are records over what a row
 //! reads: `specs/ConsolidatorRows.antt`. hb_core joins them with the rows of the other actors.
 //!
-//! `descend` tells the row of a walk, of a promotion and of a page that is taken to be kept, from the bytes of the page that was
-//! latched, and takes no memory; `next` tells each row from pages. They touch nothing themselves.
+//! `next_by_view` tells each row from the bytes of the page that was latched and of those beside it, and takes no memory; `next` tells
+//! each row from pages. `descend` is the first of them for a walk, a promotion and a page that is taken to be kept. They touch nothing
+//! themselves.
 //!
 //! Source of the idea: Evangelidis, Lomet and Salzberg 1997.
 #![tactic(auto)]
@@ -15,10 +16,13 @@ mod deciding;
 pub mod examples;
 pub mod laws;
 mod merging;
+mod naming;
 mod pairs;
 mod scanning;
+mod viewing;
 mod walking;
 
 pub use children::{Earlier, Sought};
 pub use deciding::{descend, next};
 pub use scanning::Scanned;
+pub use viewing::next_by_view;

@@ -87,10 +87,8 @@ impl<D: Device> Core<D> {
         ensures brings { OnlyBrings (core_seen self.old) (core_seen self.new) }
         ensures reads { ReadsOnly (IsErrAnd result IsReadHalt) (D.model (core_disk self.old)) (D.model (core_disk self.new)) }
     {
-        match self.needs_number(actor, wanted) {
-            Ok(true) => {}
-            Ok(false) => return Ok(None),
-            Err(refused) => return Err(Halt::from(refused)),
+        if !self.needs_number(actor, wanted) {
+            return Ok(None);
         }
         let next = self.store.next_page();
         self.store.stands_well();

@@ -29,24 +29,18 @@ use hb_space::{Actor, NoMemory};
 
 impl<D: Device> Core<D> {
     /// Whether the row makes a page, if one is free.
-    pub(crate) fn needs_number(
-        &self,
-        actor: Actor,
-        wanted: Option<Wanted>,
-    ) -> Result<bool, NoMemory>
+    pub(crate) fn needs_number(&self, actor: Actor, wanted: Option<Wanted>) -> bool
         requires { MayNumber (D.model (core_disk self.now)) (core_seen self.now) actor wanted }
-        ensures needs { IfOk result (λ needs. (m : Machine) → HasCome m actor (D.model (core_disk self.now)) (core_seen self.now) →
-            (IsTrue needs ↔ NeedsNumber (m.activity actor) (wanted_by m actor) (with_memory (core_seen self.now) m))) }
-        ensures memory { OnErr result ((m : Machine) → HasCome m actor (D.model (core_disk self.now)) (core_seen self.now) →
-            Decodes (wanted_by m actor) (with_memory (core_seen self.now) m) (m.activity actor)) }
+        ensures { (m : Machine) → HasCome m actor (D.model (core_disk self.now)) (core_seen self.now) →
+            (IsTrue result ↔ NeedsNumber (m.activity actor) (wanted_by m actor) (with_memory (core_seen self.now) m)) }
     {
         let activity = self.activity(actor);
         match activity {
-            Activity::SessionSplit { .. } => Ok(0 < self.store.free_pages()),
+            Activity::SessionSplit { .. } => 0 < self.store.free_pages(),
             Activity::PosterGrow { .. } | Activity::PosterAgain { .. } => {
                 self.makes_page(activity, page_of(activity, wanted))
             }
-            _ => Ok(false),
+            _ => false,
         }
     }
 
@@ -82,7 +76,7 @@ impl<D: Device> Core<D> {
         if actor == POSTER {
             self.ask_poster(state, wanted, free)
         } else if actor == CONSOLIDATOR {
-            self.ask_merger(state, wanted)
+            Ok(self.ask_merger(state, wanted))
         } else {
             self.ask_session(state, wanted, free)
         }
@@ -241,7 +235,7 @@ fn knows_point(activity: &Activity)
 }
 
 /// The number of the other page that the row reads: the half that left, or the parent.
-fn other_of(activity: &Activity) -> Option<u32>
+pub(crate) fn other_of(activity: &Activity) -> Option<u32>
     ensures { result ≡ other_number activity.now }
 {
     match activity {

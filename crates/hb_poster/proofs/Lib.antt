@@ -4,3 +4,4 @@ pub mod WalkExamples
 pub mod PostExamples
 pub mod SiblingLeaves
 pub mod ViewedWalks
+pub mod OwedSeen

@@ -1,17 +1,18 @@
 -- What the decider of the poster may rely on, and where it asks for memory.
-use Rattle.std.specs.Prelude.{◌≡◌, ◌⊎◌, ℕ, List, [], Option, Some, None}
+use Rattle.std.specs.Prelude.{◌≡◌, ◌⊎◌, ℕ, List, [], Option, Some, None, IfSome}
 use Rattle.hb_space.specs.Boxes.{Area, Holds}
 use Rattle.hb_layout.specs.declared.meta.Meta.{Meta}
 use Rattle.hb_layout.specs.Limits.{IsLayout}
 use Rattle.hb_frag.specs.declared.pages.LivePage.{LivePage}
 use Rattle.hb_frag.specs.declared.pages.Page.{Page}
 use Rattle.hb_frag.specs.declared.paths.Side.{Side}
+use Rattle.hb_ops.specs.Files.{if_live}
 use Rattle.hb_ops.specs.Sound.{FitsFile}
 use Rattle.hb_ops.specs.Owing.{LacksRoom, Posts}
 use Rattle.hb_activity.specs.declared.jobs.Job.{Job}
 use Rattle.hb_activity.specs.declared.activities.Activity.{Activity}
 use Rattle.hb_activity.specs.declared.activities.Activity.TheVariants as at
-use Rattle.hb_activity.specs.Deciding.{given_sight}
+use Rattle.hb_activity.specs.Deciding.{FitsFree, given_sight}
 use Rattle.hb_activity.specs.Passing.{LeadsBelow, WalksAbove}
 use Rattle.hb_poster.specs.PosterRows.{MayGrow}
 use Rattle.hb_view.specs.Views.{IsLiveAnd}
@@ -63,3 +64,20 @@ OnlyMovesOn other = ⊥
 -- The page is in use, fits a file, and the decider may be asked of it alone.
 abbrev pub IsAskedOf : Activity → Page → Type 0
 IsAskedOf activity page = (meta : Meta) × IsLayout meta × IsLiveAnd page (λ page. FitsFile meta page × MayBeAsked activity meta page None)
+
+-- ---- pages that are read from their bytes
+
+-- The page is in use, fits a file of this layout, and the decider may be asked of it, with the parent, where there is one.
+abbrev pub IsAskedAt : Activity → Meta → Page → Option Page → Type 0
+IsAskedAt activity meta page first = IsLayout meta × IsLiveAnd page (λ own. FitsFile meta own × MayBeAsked activity meta own (if_live first))
+
+-- The number that is given tells what is planned: where the step makes a page one is given exactly if a page is free, and elsewhere
+-- none is.
+pub record TellsNumber (activity : Activity) (meta : Meta) (page : LivePage) (first : Option LivePage) (free : Option (ℕ × ℕ)) : Type 0 where
+  pub fits : MakesPage activity meta page first → FitsFree meta free
+  pub makes : IfSome free (λ number. MakesPage activity meta page first)
+
+-- Memory is asked for only where the poster looks again, for a way of many steps and for the split of the parent.
+abbrev pub IsPosterAgain : Activity → Type 0
+IsPosterAgain (at.PosterAgain job parent) = Unit {0}
+IsPosterAgain other = ⊥

@@ -115,9 +115,9 @@ fn plan_for(
     post_plan(alloc, over, child, &job.point, meta.icap)
 }
 
-// The parent is split: the chosen part becomes a page of its own, whose posting one level up is a job,
-// and this job waits again behind it.
-fn split(
+/// The parent is split: the chosen part becomes a page of its own, whose posting one level up is a job,
+/// and this job waits again behind it.
+pub(crate) fn split(
     alloc: Global,
     rule: CutRule,
     job: Job,

@@ -3,7 +3,6 @@ use Rattle.std.specs.Prelude.{◌≡◌, ℕ, ◌<◌, Option, Some, None, IsSom
 use Rattle.hb_split.specs.declared.rules.CutRule.{CutRule}
 use Rattle.hb_activity.specs.declared.activities.Activity.{Activity}
 use Rattle.hb_activity.specs.declared.activities.Activity.TheVariants as at
-use Rattle.hb_activity.specs.Deciding.{FitsFree}
 use Rattle.hb_activity.specs.Deeds.{Deed}
 use Rattle.hb_activity.specs.Sights.{Sight}
 use Rattle.hb_frag.specs.declared.pages.LivePage.{LivePage}
@@ -11,7 +10,7 @@ use Rattle.hb_layout.specs.Limits.{IsLayout}
 use Rattle.hb_ops.specs.Sound.{FitsFile}
 use Rattle.hb_point.specs.Asks.{MayAsk}
 use Rattle.hb_point.specs.SessionRows.{PointRow, WantsBoxes}
-use Rattle.hb_poster.specs.Asks.{MakesPage, MayBeAsked}
+use Rattle.hb_poster.specs.Asks.{MakesPage, MayBeAsked, TellsNumber}
 use Rattle.hb_poster.specs.PosterRows.{PosterRow}
 use Rattle.hb_search.specs.Searching.{GathersNow, MaySearch, SearchRow}
 use Rattle.hb_store.specs.States.{StoreState}
@@ -35,10 +34,11 @@ pub record AsksPoster (st : StoreState) (activity : Activity) (id : ℕ) (free :
   pub made : FitsFile st.meta page
   pub next : (number : ℕ × ℕ) → free ≡ Some number → next_of st ≡ Some number
   pub asked : MayBeAsked activity st.meta page (other_page st activity)
-  pub fits : MakesPage activity st.meta page (other_page st activity) → FitsFree st.meta free
+  pub number : TellsNumber activity st.meta page (other_page st activity) free
 
 -- Of the poster it is asked whether the row makes a page, and its answer is whether it does, if one is free.
 pub record AsksNumber (st : StoreState) (activity : Activity) (id : ℕ) : Type 0 where
+  pub layout : IsLayout st.meta
   pub page : LivePage
   pub live : live_here st id ≡ Some page
   pub made : FitsFile st.meta page

@@ -19,3 +19,5 @@ pub mod TakenWithin
 pub mod ListsPassed
 pub mod PassedOver
 pub mod Followed
+pub mod LeavesWalked
+pub mod Covered

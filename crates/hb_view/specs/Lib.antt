@@ -12,3 +12,5 @@ pub mod Splicing
 pub mod Spots
 pub mod Within
 pub mod WellMade
+pub mod LeafWalks
+pub mod Renamed

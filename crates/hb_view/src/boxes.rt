@@ -14,7 +14,8 @@ use hb_space::{Area, Point};
 pub(crate) fn leaf_in(inside: &Inside<'_>, p: &Point) -> (LeafView, Area)
     requires well_cut { IsWellCut (tree_seen inside.now.tree) (area_seen inside.now) }
     requires held { Holds (area_seen inside.now) p.now }
-    ensures { ShowsLeaf (first_at p.now (leaves_of (tree_seen inside.now.tree) (area_seen inside.now))) result.0 result.1 }
+    ensures shows { ShowsLeaf (first_at p.now (leaves_of (tree_seen inside.now.tree) (area_seen inside.now))) result.0 result.1 }
+    ensures inside { Holds result.1 p.now }
 {
     let mut bounds = Bounds::of(inside);
     let leaf = descend(&inside.tree, &mut bounds, p.values());

@@ -6,7 +6,7 @@
 //!
 //! A view goes down one path. At a cut the left side begins behind the cut's value; the right side begins behind the left
 //! one, which is read over. Of a box on the way one value is changed, and given back behind the side. Only `page` wants
-//! memory, since it decodes, and `records_in`, which copies records.
+//! memory, since it decodes, `records_in`, which copies records, and `path_to`, for a path of more than 32 steps.
 //!
 //! Within the crate, a tree is a `TreeView`, a list of records a `ListView`, and a tree with its box an `Inside`: bytes of
 //! which it is known that one stands there. Making one tests nothing. A box on the way is a `Bounds`, which contracts see as
@@ -30,25 +30,30 @@ mod boxes;
 mod broken;
 mod checking;
 mod corners;
+mod covering;
 mod fields;
 mod gathering;
 mod heads;
 pub mod laws;
+mod leaf_walks;
 mod leaves;
 mod lists;
 mod naming;
 mod order;
 mod places;
+mod renaming;
 mod roots;
 mod rules;
 mod skipping;
 mod splicing;
 mod threads;
+mod tracing;
 mod trees;
 mod views;
 mod walking;
 mod well_made;
 
+pub use leaf_walks::LeafWalk;
 pub use leaves::LeafView;
 pub use splicing::splice;
 pub use views::PageView;

@@ -1,30 +1,35 @@
 //! A page seen from its bytes.
-ghost use Rattle.std.specs.Prelude.{◌≡◌, ◌≤◌, ◌↔◌, length, IfOk, IfSome, IsNone, IsSome, IsTrue, MatchOption, None, option_map};
+ghost use Rattle.std.specs.Prelude.{◌≡◌, ◌≤◌, ◌↔◌, length, map, All, IfOk, IfSome, IsNone, IsSome, IsTrue, MatchOption, None, option_map};
 ghost use Rattle.std.specs.List.{slice_get};
 ghost use Rattle.hb_space.specs.Boxes.{Holds, IsArea};
 ghost use Rattle.hb_frag.specs.Grammar.{HasSpelling};
-ghost use Rattle.hb_frag.specs.Leaves.{first_named, leaf_at, leaves_of, siblings_of, weight_of, WellCut};
+ghost use Rattle.hb_frag.specs.Leaves.{DirectlyCovers, IsPointer, first_named, leaf_at, leaves, leaves_of, siblings_of, weight_of, WellCut};
+ghost use Rattle.hb_frag.specs.Paths.{way_to};
 ghost use Rattle.hb_ops.specs.Sound.{FitsFile, BreaksFirst};
 ghost use Rattle.hb_view.specs.Limits.{meta_with};
 ghost use Rattle.hb_page_codec.specs.Reading.{ReadsAs};
 ghost use Rattle.hb_page_codec.specs.ReadingPages.{page_of_bytes};
 ghost use Rattle.hb_frag.specs.declared.pages.Page.TheVariants.{Free as FreePage};
 ghost use Rattle.hb_view.specs.Naming.{CountsLeaf, first_child_box};
-ghost use Rattle.hb_view.specs.Views.{IsLive, IsLiveAnd, HasInside, ShowsLeaf, TellsBody};
+ghost use Rattle.hb_view.specs.Renamed.{after_renaming};
+ghost use Rattle.hb_view.specs.Views.{IsLive, IsLiveAnd, HasInside, ShowsLeaf, TellsBody, leaf_view};
 ghost use Rattle.hb_view.specs.Within.{TakesFound};
 ghost use Rattle.hb_view.specs.WellMade.{SpellWellMade};
 
-use crate::LeafView;
+use crate::{LeafView, LeafWalk};
 use crate::boxes::leaf_in;
 use crate::broken::{Limits, first_broken};
 use crate::checking::spells;
+use crate::covering::is_clear_of;
 use crate::gathering::take_in;
 use crate::heads::{are_live, box_of, inside_of, level_of, next_of, page_of};
 use crate::naming::{leaf_of_place, named_in};
+use crate::renaming::weigh_renamed;
+use crate::tracing::path_in;
 use crate::trees::Inside;
 use crate::walking::{count_in, find_in, weigh};
 use crate::well_made::is_well_made;
-use hb_frag::Page;
+use hb_frag::{Page, Path};
 use hb_space::form::BMAX;
 use hb_space::{Area, NoMemory, Point, Record};
 use std::alloc::Global;
@@ -130,7 +135,9 @@ impl<'a> PageView<'a> {
     pub fn leaf_at(&self, p: &Point) -> (LeafView, Area)
         requires well_cut { IsLiveAnd self.now WellCut }
         requires held { IsLiveAnd self.now (λ page. Holds page.area p.now) }
-        ensures { IsLiveAnd self.now (λ page. ShowsLeaf (leaf_at page p.now) result.0 result.1) }
+        ensures shows { IsLiveAnd self.now (λ page. ShowsLeaf (leaf_at page p.now) result.0 result.1) }
+        ensures inside { Holds result.1 p.now }
+        ensures area { IsLiveAnd self.now (λ page. IsArea page.area) }
     {
         leaf_in(&self.inside(), p)
     }
@@ -201,6 +208,40 @@ impl<'a> PageView<'a> {
             (λ r. ShowsLeaf (slice_get (leaves_of page.frag page.area) place) r.0 r.1)) }
     {
         leaf_of_place(&self.inside(), place)
+    }
+
+    /// A walk over the leaves of a page in use, from the left, which tells them without their boxes and their records.
+    pub fn leaves(&self) -> LeafWalk<'a>
+        requires { IsLive self.now }
+        ensures { IsLiveAnd self.now (λ page. result ≡ map leaf_view (leaves page.frag)) }
+    {
+        LeafWalk::over(&self.inside().tree)
+    }
+
+    /// Whether the page directly holds the box: it lies in the page's and meets no sibling leaf's.
+    pub fn directly(&self, a: &Area) -> bool
+        requires well_cut { IsLiveAnd self.now WellCut }
+        requires attributes { IsLiveAnd self.now (λ page. length a.now.lo ≡ length page.area.lo) }
+        ensures { IsLiveAnd self.now (λ page. IsTrue result ↔ DirectlyCovers page a.now) }
+    {
+        a.within(&self.area()) && is_clear_of(&self.inside(), a)
+    }
+
+    /// The path to the leaf to which the point leads. Only a path of more than 32 steps takes memory.
+    pub fn path_to(&self, alloc: Global, p: &Point) -> Result<Path, NoMemory>
+        requires { IsLiveAnd self.now (λ page. length p.now ≡ length page.area.lo) }
+        ensures { IfOk result (λ path. IsLiveAnd self.now (λ page. path ≡ way_to p.now page.frag)) }
+    {
+        path_in(alloc, &self.inside().tree, p.values())
+    }
+
+    /// What a page above the records would weigh if each child leaf to the page `gone` named the page `keep`, without cuts whose two
+    /// sides should be one leaf.
+    pub fn weight_renamed(&self, gone: u32, keep: u32) -> u32
+        requires { IsLiveAnd self.now (λ page. All IsPointer (leaves page.frag)) }
+        ensures { IsLiveAnd self.now (λ page. result ≡ weight_of (after_renaming gone keep page.frag)) }
+    {
+        weigh_renamed(&self.inside().tree, gone, keep).0
     }
 
     /// The page itself, with memory of its own.

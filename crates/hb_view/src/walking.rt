@@ -20,7 +20,8 @@ pub(crate) fn descend(tree: &TreeView<'_>, bounds: &mut Bounds, p: &[u64]) -> Le
     requires area { IsArea bounds.old }
     requires well_cut { IsWellCut (tree_seen tree.now) bounds.old }
     requires held { Holds bounds.old p.now }
-    ensures { ShowsLeaf (first_at p.now (leaves_of (tree_seen tree.now) bounds.old)) result bounds.new }
+    ensures shows { ShowsLeaf (first_at p.now (leaves_of (tree_seen tree.now) bounds.old)) result bounds.new }
+    ensures inside { Holds bounds.new p.now }
 {
     let k = tree.k;
     match root_of(tree) {

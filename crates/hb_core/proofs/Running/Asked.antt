@@ -4,7 +4,13 @@ use Rattle.std.proofs.Common.{MatchOption}
 use Rattle.hb_layout.specs.Limits.{IsLayout}
 use Rattle.hb_activity.specs.declared.activities.Activity.TheVariants as at
 use Rattle.hb_activity.specs.Wanting.{onward_at}
-use Rattle.hb_consol.specs.Asks.{MayAskToMerge}
+use Rattle.hb_activity.specs.Classes.{job_in_work}
+use Rattle.hb_consol.proofs.Facts.ParentsAbove.{none_has_records}
+use Rattle.hb_consol.specs.Asks.{HasParentAbove, MayAskToMerge}
+use Rattle.hb_frag.specs.Leaves.{leaves, siblings_of}
+use Rattle.hb_ops.specs.Owing.{LacksRoom}
+use Rattle.hb_poster.specs.Asks.{TellsNumber}
+use Rattle.hb_steps.specs.KeptFits.{JobFits}
 use Rattle.hb_point.specs.Asks.{MayAsk}
 use Rattle.hb_search.specs.Searching.{MaySearch}
 use Rattle.hb_core.proofs.Running.Brought.{brings_wider}
@@ -110,13 +116,27 @@ module _ (m : Machine) (actor : ℕ) (may : IsActor actor) (keeps : MachineKeeps
   merger_wants (at.ConsolidatorDecide job parent keep gone) is works = wants_page (at.ConsolidatorDecide job parent keep gone) is (parent_level (at.ConsolidatorDecide job parent keep gone) _ gone (λ page. page.level - 1) Exclusive is refl)
   merger_wants activity is works = absurd works
 
--- A number is given where one is needed: exactly where a page is free.
+-- A number is given only where the step makes a page.
+pub makes_where_given : (N M : Type 0) (Q : ℕ × ℕ → Type 0) (free : Option (ℕ × ℕ)) → (N → M) → MatchOption free (¬ N) (λ next. N × Q next) → IfSome free (λ next. M)
+makes_where_given N M Q (Some next) told has = told has.0
+makes_where_given N M Q None told has = tt
+
+-- Where one is needed it is given exactly if a page is free.
 pub fits_free : (N : Type 0) (Q : ℕ × ℕ → Type 0) (meta : Meta) (free : Option (ℕ × ℕ)) → meta.live ≤ meta.pages → (N → meta.live < meta.pages) → (meta.live < meta.pages → N) → MatchOption free (¬ N) (λ next. N × Q next) → FitsFree meta free
 fits_free N Q meta (Some next) few gives needs has = gives has.0
 fits_free N Q meta None few gives needs has = elim (cases_lt meta.live meta.pages) [
   | inl lt ↦ absurd (has (needs lt))
   | inr ge ↦ omega (arith, ge, few)
 ]
+
+-- A parent of which a pair is decided is above the records, as its job is.
+has_parent_above : (activity : Activity) (meta : Meta) (page : LivePage) (first second : Option LivePage) → IfSome (job_in_work activity) (JobFits meta.k) → MayAskToMerge activity meta page first second → HasParentAbove activity first
+has_parent_above (at.ConsolidatorDecide job parent keep gone) meta page (Some above) (Some kept) fits asked =
+    let high : 1 ≤ above.level = let level = asked.level in let low = fits.level in omega (arith, level, low) in
+    none_has_records above.level (leaves above.frag) high asked.both.above_made.filled.kinds
+has_parent_above (at.ConsolidatorDecide job parent keep gone) meta page (Some above) None fits asked = absurd asked
+has_parent_above (at.ConsolidatorDecide job parent keep gone) meta page None second fits asked = absurd asked
+has_parent_above activity meta page first second fits asked = tt
 
 module _ (d : DiskModel) (c : RunningCore) (m : Machine) (actor : ℕ) (free : Option (ℕ × ℕ)) (may : IsActor actor) (has : HasPages m actor free d c) where
   keeps : MachineKeeps m
@@ -251,14 +271,14 @@ module _ (d : DiskModel) (c : RunningCore) (m : Machine) (actor : ℕ) (free : O
   abbrev AsksAsPoster : Activity → Type 0
   AsksAsPoster activity = AsksPoster c.store activity (number_of_row activity (wanted_by m actor)) free
 
-  asks_poster : (activity : Activity) (its : HasWanted) → MayBeAsked activity m.store.meta its.page (other_page c.store activity) → (MakesPage activity c.store.meta its.page (other_page c.store activity) → FitsFree c.store.meta free) → AsksAsPoster activity
-  asks_poster activity its asked fits = subst (λ (w : Option Wanted). AsksPoster c.store activity (number_of_row activity w) free) (sym its.wants) (record {
+  asks_poster : (activity : Activity) (its : HasWanted) → MayBeAsked activity m.store.meta its.page (other_page c.store activity) → TellsNumber activity c.store.meta its.page (other_page c.store activity) free → AsksAsPoster activity
+  asks_poster activity its asked number = subst (λ (w : Option Wanted). AsksPoster c.store activity (number_of_row activity w) free) (sym its.wants) (record {
     layout = layout;
     page = its.page;
     live = its.hand.live;
     made = fetched_fits m AnyPage c.store keeps.pages_of_file brings its.wanted.page its.page its.hand.live;
     asked = subst (λ (m : Meta). MayBeAsked activity m its.page (other_page c.store activity)) (sym meta) asked;
-    fits = fits;
+    number = number;
     next = next_is_given;
   })
 
@@ -274,22 +294,53 @@ module _ (d : DiskModel) (c : RunningCore) (m : Machine) (actor : ℕ) (free : O
       (λ lt. (lt, its.page, subst (λ (a : Activity). IsAtHand (with_memory c m) a its.wanted its.page) is its.hand, (over, live, lacks)))
       (numbers_at (at.PosterAgain job parent) (Some its.wanted) is its.wants)
 
+  -- a number tells that the step makes a page
+  grow_makes : (job : Job) (its : HasWanted) → Needs (at.PosterGrow job) (Some its.wanted) → MakesPage (at.PosterGrow job) c.store.meta its.page None
+  grow_makes job its (room, root, hand, grows) =
+      let same : root ≡ its.page = same_Some root its.page (sym hand.live ∙ its.hand.live) in
+      record { height = grows.height; below = grows.below; gave = subst (λ (p : LivePage). siblings_of p ≢ []) same grows.gave }
+
+  again_makes : (job : Job) (parent : ℕ) (its : HasWanted) (over : LivePage) → live_here c.store parent ≡ Some over → Needs (at.PosterAgain job parent) (Some its.wanted) → MakesPage (at.PosterAgain job parent) c.store.meta its.page (Some over)
+  again_makes job parent its over live (room, child, hand, (above, there, lacks)) =
+      let same : child ≡ its.page = same_Some child its.page (sym hand.live ∙ its.hand.live) in
+      let one : above ≡ over = same_Some above over (sym there ∙ live) in
+      subst (λ (p : LivePage). LacksRoom over p job.point c.store.meta.icap) same (subst (λ (p : LivePage). LacksRoom p child job.point c.store.meta.icap) one lacks)
+
+  grow_number : (job : Job) (its : HasWanted) → m.activity actor ≡ at.PosterGrow job → TellsNumber (at.PosterGrow job) c.store.meta its.page None free
+  grow_number job its is = record {
+    fits = grow_fits job its is;
+    makes = makes_where_given (Needs (at.PosterGrow job) (Some its.wanted)) (MakesPage (at.PosterGrow job) c.store.meta its.page None) (λ next. next_of c.store ≡ Some next) free (grow_makes job its) (numbers_at (at.PosterGrow job) (Some its.wanted) is its.wants);
+  }
+
+  again_number : (job : Job) (parent : ℕ) (its : HasWanted) (over : LivePage) → m.activity actor ≡ at.PosterAgain job parent → live_here c.store parent ≡ Some over → TellsNumber (at.PosterAgain job parent) c.store.meta its.page (Some over) free
+  again_number job parent its over is live = record {
+    fits = again_fits job parent its over is live;
+    makes = makes_where_given (Needs (at.PosterAgain job parent) (Some its.wanted)) (MakesPage (at.PosterAgain job parent) c.store.meta its.page (Some over)) (λ next. next_of c.store ≡ Some next) free (again_makes job parent its over live) (numbers_at (at.PosterAgain job parent) (Some its.wanted) is its.wants);
+  }
+
+  -- where the step makes none, none is given
+  no_number_told : (activity : Activity) (its : HasWanted) (first : Option LivePage) → m.activity actor ≡ activity → (Needs activity (Some its.wanted) → ⊥) → (MakesPage activity c.store.meta its.page first → ⊥) → TellsNumber activity c.store.meta its.page first free
+  no_number_told activity its first is never none = record {
+    fits = λ makes. absurd (none makes);
+    makes = makes_where_given (Needs activity (Some its.wanted)) (MakesPage activity c.store.meta its.page first) (λ next. next_of c.store ≡ Some next) free (λ needs. absurd (never needs)) (numbers_at activity (Some its.wanted) is its.wants);
+  }
+
   asks_at : (activity : Activity) (its : HasWanted) → m.activity actor ≡ activity → IsWorking activity → class_of activity ≡ Posters → IfSome (walk_point activity) IsPoint → AsksAsPoster activity
   asks_at (at.PosterGrow job) its is working class points =
-      asks_poster (at.PosterGrow job) its tt (grow_fits job its is)
+      asks_poster (at.PosterGrow job) its tt (grow_number job its is)
   asks_at (at.PosterWalk job held) its is working class point =
       let asked = poster_walks_may_be_asked m actor c.store job held its.wanted its.page may keeps brings is point its.wants (at_disk its) in
-      asks_poster (at.PosterWalk job held) its (subst (λ (a : Activity). MayBeAsked a m.store.meta its.page None) is asked) (λ none. absurd none)
+      asks_poster (at.PosterWalk job held) its (subst (λ (a : Activity). MayBeAsked a m.store.meta its.page None) is asked) (no_number_told (at.PosterWalk job held) its None is (λ needs. needs) (λ makes. makes))
   asks_at (at.PosterChild job parent) its is working class points =
       let asks = children_may_be_asked m actor c.store job parent its.wanted its.page may keeps brings (inl is) its.wants (at_disk its) in
       let asked = subst (λ (a : Activity). MayBeAsked a m.store.meta its.page (Some asks.over)) is asks.may in
-      asks_poster (at.PosterChild job parent) its (subst (λ (o : Option LivePage). MayBeAsked (at.PosterChild job parent) m.store.meta its.page o) (sym asks.live) asked) (λ none. absurd none)
-  asks_at (at.PosterPromote job parent) its is working class points = asks_poster (at.PosterPromote job parent) its tt (λ none. absurd none)
+      asks_poster (at.PosterChild job parent) its (subst (λ (o : Option LivePage). MayBeAsked (at.PosterChild job parent) m.store.meta its.page o) (sym asks.live) asked) (no_number_told (at.PosterChild job parent) its (other_page c.store (at.PosterChild job parent)) is (λ needs. needs) (λ makes. makes))
+  asks_at (at.PosterPromote job parent) its is working class points = asks_poster (at.PosterPromote job parent) its tt (no_number_told (at.PosterPromote job parent) its None is (λ needs. needs) (λ makes. makes))
   asks_at (at.PosterAgain job parent) its is working class points =
       let asks = children_may_be_asked m actor c.store job parent its.wanted its.page may keeps brings (inr is) its.wants (at_disk its) in
       let asked = subst (λ (a : Activity). MayBeAsked a m.store.meta its.page (Some asks.over)) is asks.may in
       asks_poster (at.PosterAgain job parent) its (subst (λ (o : Option LivePage). MayBeAsked (at.PosterAgain job parent) m.store.meta its.page o) (sym asks.live) asked)
-      (λ makes. again_fits job parent its asks.over is asks.live (subst (λ (o : Option LivePage). MakesPage (at.PosterAgain job parent) c.store.meta its.page o) asks.live makes))
+      (subst (λ (o : Option LivePage). TellsNumber (at.PosterAgain job parent) c.store.meta its.page o free) (sym asks.live) (again_number job parent its asks.over is asks.live))
   asks_at (at.SessionWalk line held rest found) its is working class points = cc
   asks_at (at.SessionSplit line held) its is working class points = cc
   asks_at (at.SessionPut line source fresh) its is working class points = cc
@@ -309,24 +360,26 @@ module _ (d : DiskModel) (c : RunningCore) (m : Machine) (actor : ℕ) (free : O
   abbrev AsksAsMerger : Activity → Type 0
   AsksAsMerger activity = AsksMerger c.store activity (number_of_row activity (wanted_by m actor))
 
-  asks_merger : (activity : Activity) (its : HasWanted) → MayAskToMerge activity m.store.meta its.page (other_page c.store activity) (second_page c.store activity) → AsksAsMerger activity
-  asks_merger activity its asked = subst (λ (w : Option Wanted). AsksMerger c.store activity (number_of_row activity w)) (sym its.wants) (record {
+  asks_merger : (activity : Activity) (its : HasWanted) → m.activity actor ≡ activity → MayAskToMerge activity m.store.meta its.page (other_page c.store activity) (second_page c.store activity) → AsksAsMerger activity
+  asks_merger activity its is asked = subst (λ (w : Option Wanted). AsksMerger c.store activity (number_of_row activity w)) (sym its.wants) (record {
     layout = layout;
     page = its.page;
     live = its.hand.live;
     made = fetched_fits m AnyPage c.store keeps.pages_of_file brings its.wanted.page its.page its.hand.live;
     asked = subst (λ (m : Meta). MayAskToMerge activity m its.page (other_page c.store activity) (second_page c.store activity)) (sym meta) asked;
+    parent = has_parent_above activity m.store.meta its.page (other_page c.store activity) (second_page c.store activity)
+        (subst (λ (a : Activity). IfSome (job_in_work a) (JobFits m.store.meta.k)) is (keeps.attributes_fit.in_work actor)) asked;
   })
 
   asks_at_parent : (activity : Activity) (its : HasWanted) → m.activity actor ≡ activity → IsSome (merging_at activity) → AsksAsMerger activity
-  asks_at_parent activity its is some = asks_merger activity its
+  asks_at_parent activity its is some = asks_merger activity its is
       (subst (λ (a : Activity). MayAskToMerge a m.store.meta its.page (other_page c.store a) (second_page c.store a)) is
       (pairs_may_be_asked m actor c.store its.page may keeps brings (subst (λ (a : Activity). IsSome (merging_at a)) (sym is) some)))
 
   asks_to_merge : (activity : Activity) (its : HasWanted) → m.activity actor ≡ activity → IsMerging activity → IfSome (walk_point activity) IsPoint → AsksAsMerger activity
   asks_to_merge (at.ConsolidatorWalk job held) its is works point =
       let asked = merger_walks_may_be_asked m actor c.store job held its.wanted its.page may keeps brings is point its.wants (at_disk its) in
-      asks_merger (at.ConsolidatorWalk job held) its (subst (λ (a : Activity). MayAskToMerge a m.store.meta its.page None None) is asked)
+      asks_merger (at.ConsolidatorWalk job held) its is (subst (λ (a : Activity). MayAskToMerge a m.store.meta its.page None None) is asked)
   asks_to_merge (at.ConsolidatorScan job parent child) its is works point = asks_at_parent (at.ConsolidatorScan job parent child) its is refl
   asks_to_merge (at.ConsolidatorTry job parent keep gone leaf) its is works point = asks_at_parent (at.ConsolidatorTry job parent keep gone leaf) its is refl
   asks_to_merge (at.ConsolidatorPromote job parent keep gone) its is works point = asks_at_parent (at.ConsolidatorPromote job parent keep gone) its is refl

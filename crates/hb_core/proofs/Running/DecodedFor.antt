@@ -1,39 +1,16 @@
 -- Where a decider lacks memory, the step decodes pages.
 use Rattle.hb_core.proofs.Running.Names.{◌≡◌, ℕ, Option, Some, None, sym, ◌∙◌, subst, same_Some, DiskModel, IsActor, Wanted, Activity, Posters, class_of, StoreState, corner_ahead, has_last, Decodes, wanted_by, WalksToSearch, MachineKeeps, IsMerging, number_of_row, Machine, StandsAs, IsAtHand, RunningCore, IsWorking, HasPages, with_memory}
 use Rattle.hb_activity.specs.declared.activities.Activity.TheVariants as at
-use Rattle.hb_consol.specs.Asks.{OnlyMovesToMerge}
-use Rattle.hb_poster.specs.Asks.{OnlyMovesOn}
+use Rattle.hb_poster.specs.Asks.{IsPosterAgain}
 use Rattle.hb_search.specs.Searching.{GathersNow}
 use Rattle.hb_core.proofs.Running.Asked.{Needs, at_number, has_wanted, session_wants}
-use Rattle.hb_core.proofs.Running.Decided.{merges, posts, stands, works}
+use Rattle.hb_core.proofs.Running.Decided.{stands}
 use Rattle.hb_steps.specs.AskingDeciders.{DecodesNow, GathersAt}
 
--- a worker at work decodes what it reads, but where it only moves on
-poster_by : (wanted : Option Wanted) (m : Machine) (activity : Activity) → class_of activity ≡ Posters → IsWorking activity → ¬ (OnlyMovesOn activity) → Decodes wanted m activity
-poster_by wanted m (at.PosterGrow job) class working stays = tt
-poster_by wanted m (at.PosterWalk job held) class working stays = absurd (stays tt)
-poster_by wanted m (at.PosterChild job parent) class working stays = tt
-poster_by wanted m (at.PosterPromote job parent) class working stays = absurd (stays tt)
-poster_by wanted m (at.PosterAgain job parent) class working stays = tt
-poster_by wanted m (at.SessionWalk line held rest found) class working stays = cc
-poster_by wanted m (at.SessionSplit line held) class working stays = cc
-poster_by wanted m (at.SessionPut line source fresh) class working stays = cc
-poster_by wanted m (at.ConsolidatorWalk job held) class working stays = cc
-poster_by wanted m (at.ConsolidatorScan job parent child) class working stays = cc
-poster_by wanted m (at.ConsolidatorTry job parent keep gone leaf) class working stays = cc
-poster_by wanted m (at.ConsolidatorPromote job parent keep gone) class working stays = cc
-poster_by wanted m (at.ConsolidatorKeep job parent keep gone) class working stays = cc
-poster_by wanted m (at.ConsolidatorDecide job parent keep gone) class working stays = cc
-poster_by wanted m activity class working stays = absurd working
-
-merger_by : (wanted : Option Wanted) (m : Machine) (activity : Activity) → IsMerging activity → ¬ (OnlyMovesToMerge activity) → Decodes wanted m activity
-merger_by wanted m (at.ConsolidatorWalk job held) merging stays = absurd (stays tt)
-merger_by wanted m (at.ConsolidatorScan job parent child) merging stays = tt
-merger_by wanted m (at.ConsolidatorTry job parent keep gone leaf) merging stays = tt
-merger_by wanted m (at.ConsolidatorPromote job parent keep gone) merging stays = absurd (stays tt)
-merger_by wanted m (at.ConsolidatorKeep job parent keep gone) merging stays = absurd (stays tt)
-merger_by wanted m (at.ConsolidatorDecide job parent keep gone) merging stays = tt
-merger_by wanted m activity merging stays = absurd merging
+-- a poster that looks again may decode its parent
+again_by : (wanted : Option Wanted) (m : Machine) (activity : Activity) → IsPosterAgain activity → Decodes wanted m activity
+again_by wanted m (at.PosterAgain job parent) again = tt
+again_by wanted m activity again = absurd again
 
 module _ (d : DiskModel) (c : RunningCore) (m : Machine) (actor : ℕ) (free : Option (ℕ × ℕ)) (may : IsActor actor) (has : HasPages m actor free d c) where
   keeps : MachineKeeps m
@@ -75,10 +52,7 @@ module _ (d : DiskModel) (c : RunningCore) (m : Machine) (actor : ℕ) (free : O
   search_decodes activity wanted st stood wants same searches gathers = as_here activity stood (λ is. search_by activity is searches
       (subst (λ (w : Option Wanted). GathersAt c.store activity (number_of_row activity w)) wants (subst (λ (st : StoreState). GathersAt st activity (number_of_row activity wanted)) same gathers)))
 
-  -- ---- workers
+  -- ---- the poster
 
-  pub poster_decodes : (activity : Activity) → StandsAs c actor activity → actor ≡ 17 → ¬ (OnlyMovesOn activity) → Has (m.activity actor)
-  poster_decodes activity stood poster stays = as_here activity stood (λ is. poster_by (wanted_by m actor) (with_memory c m) activity (posts d c m actor free may has activity is poster) (works d c m actor free may has activity is) stays)
-
-  pub merger_decodes : (activity : Activity) → StandsAs c actor activity → actor ≡ 18 → ¬ (OnlyMovesToMerge activity) → Has (m.activity actor)
-  merger_decodes activity stood merger stays = as_here activity stood (λ is. merger_by (wanted_by m actor) (with_memory c m) activity (merges d c m actor free may has activity is merger) stays)
+  pub poster_decodes : (activity : Activity) → StandsAs c actor activity → IsPosterAgain activity → Has (m.activity actor)
+  poster_decodes activity stood again = as_here activity stood (λ is. again_by (wanted_by m actor) (with_memory c m) activity again)

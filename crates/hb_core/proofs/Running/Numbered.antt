@@ -103,16 +103,6 @@ decodes_as m uses None (at.SessionWalk line held rest found) decodes = decodes
 decodes_as m uses (Some wanted) (at.SessionWalk line held rest found) (boxes, (page, hand, now)) = (boxes, (page, record { live = hand.live; level = hand.level; box = hand.box }, now))
 decodes_as m uses wanted other decodes = decodes
 
--- memory is refused before a number is known to be needed
-pub number_refused : (m : Machine) (d : DiskModel) (c : RunningCore) (actor : ℕ) → IsActor actor → HasCome m actor d c → Decodes (wanted_by m actor) (with_memory c m) (m.activity actor) → HaltsPinned m actor (GivesUp drops.NoMemory) d c
-number_refused m d c actor latches come decodes = record {
-  brings = brings_wider m (IsWantedPage (wanted_by m actor)) (MayNeed m actor c.store) c.store (λ id wants. inl wants) come.brings;
-  shows = shows_but d c (with_memory c m) actor latches come.shows;
-  cause = inl (decodes_as (with_disk c.store m.files m.clock m) c.uses (wanted_by m actor) (m.activity actor) decodes);
-  used_is = inl come.uses;
-  tied = come.tied;
-}
-
 -- a number that is given was read without a fault; a read that failed is one for which the step halts
 pub reads_on : {T : Type 0} (x : T) (d e : DiskModel) → ReadsOnly (IsErrOf (Ok x) fetches.ReadFault) d e → ReadsOnly ⊥ d e
 reads_on x d e only = ReadsOnly-neither d e (λ is. cc) (λ never. never) only

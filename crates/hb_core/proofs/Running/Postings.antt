@@ -2,6 +2,7 @@
 use Rattle.hb_core.proofs.Running.Names.{◌≡◌, ◌⊎◌, ◌↔◌, inl, inr, ℕ, ◌<◌, Bool, [], Option, Some, None, IsSome, IsTrue, refl, sym, ap, ◌∙◌, subst, option_and_then, same_Some, DiskModel, LivePage, Placed, Shared, IsActor, Meta, HEIGHT_MAX, at_value, has_value, some_value, Job, Wanted, Activity, given_sight, LeadsBelow, Sight, in_mode, named_child, wanted_of, MakesPage, MayBeAsked, MayGrow, LacksRoom, fetched_fits, children_may_be_asked, Decodes, NeedsNumber, AnyPage, looked_live, wanted_by, Brings, IsWantedPage, number_of_row, other_page, Machine, live_here, sight, with_disk, StandsAs, IsAtHand, RunningCore, HasCome, with_memory, StoreState}
 use Rattle.std.specs.Option.{IsSomeAnd}
 use Rattle.hb_activity.specs.declared.activities.Activity.TheVariants as at
+use Rattle.hb_layout.specs.Limits.{IsLayout}
 use Rattle.hb_core.proofs.Running.Brought.{brings_wider}
 use Rattle.hb_core.proofs.Running.StandsElsewhere.{stands_as}
 use Rattle.hb_steps.specs.AskingDeciders.{AsksNumber, MakesPageAt}
@@ -138,6 +139,7 @@ module _ (m : Machine) (d : DiskModel) (c : RunningCore) (actor : ℕ) (latches 
   -- what the poster's decider is asked
   pub asks_number : AsksNumber c.store activity id
   asks_number = record {
+    layout = subst IsLayout (sym (ap (λ (s : StoreState). s.meta) come.brings.rest)) come.may.goes_on.kept.meta_within_limits.layout;
     page = its_page.0;
     live = its_page.1;
     made = fetched_fits m (IsWantedPage (wanted_by m actor)) c.store come.may.goes_on.kept.pages_of_file come.brings id its_page.0 its_page.1;
@@ -148,12 +150,3 @@ module _ (m : Machine) (d : DiskModel) (c : RunningCore) (actor : ℕ) (latches 
   pub number_said : (b : Bool) → IsTrue b ↔ MakesPageAt c.store activity id → IsTrue b ↔ NeedsNumber (m.activity actor) (wanted_by m actor) (with_memory c m)
   number_said b says = number_needed m d c actor latches come activity stands_so may its_page.0 (same_page ∙ its_page.1) b
       (subst (λ (o : Option LivePage). IsTrue b ↔ ((c.store.meta.live < c.store.meta.pages) × IsSomeAnd o (λ page. MakesPage activity c.store.meta page (other_page c.store activity)))) its_page.1 says)
-
-  -- which takes memory
-  pub number_decodes : Decodes (wanted_by m actor) (with_memory c m) (m.activity actor)
-  number_decodes = subst (Decodes (wanted_by m actor) (with_memory c m)) (sym stands_so) (by activity may)
-    where
-      by : (a : Activity) → MayMakeToPost a → Decodes (wanted_by m actor) (with_memory c m) a
-      by (at.PosterGrow job) makes = tt
-      by (at.PosterAgain job parent) makes = tt
-      by a makes = absurd makes

@@ -60,13 +60,6 @@ module _ (given core : CutRule) (st : StoreState) (activity : Activity) (n : ℕ
         (lifted_search (cutting_sight given meta (given_pages activity id page first) free) (sight_in st core place) (shown next place) activity id page deed row),
   )
 
-  pub poster_free : AsksPoster st activity n free → MakesPage activity meta page first → FitsFree meta free
-  poster_free asks makes =
-      let at_meta = subst (λ (m : Meta). MakesPage activity m page first) is_meta makes in
-      let at_other = subst (λ (o : Option LivePage). MakesPage activity st.meta page o) other at_meta in
-      let at_page = subst (λ (q : LivePage). MakesPage activity st.meta q (other_page st activity)) (sym (same_page asks.page asks.live)) at_other in
-      subst (λ (m : Meta). FitsFree m free) (sym is_meta) (asks.fits at_page)
-
   pub poster_said : AsksPoster st activity n free → CutsAlike activity given core → (deed : Deed) → PosterRow activity (cutting_sight given meta (given_pages activity id page first) free) id page deed → (place : ℕ) → HasPosterRow st core activity n place (placed place deed)
   poster_said asks same deed row place = (
     page,

@@ -4,7 +4,7 @@ use Rattle.std.proofs.lemmas.Result.{IfOk-weaker, on_err_weaker}
 use Rattle.hb_activity.specs.declared.activities.Activity.{Activity}
 use Rattle.hb_activity.specs.Deciding.{deed_of}
 use Rattle.hb_core.proofs.Running.Decided.{decided_merger, decided_poster, decided_search, decided_session, may_ask_merger, may_ask_poster, may_ask_searcher, may_ask_session}
-use Rattle.hb_core.proofs.Running.DecodedFor.{merger_decodes, poster_decodes, search_decodes, session_decodes}
+use Rattle.hb_core.proofs.Running.DecodedFor.{poster_decodes, search_decodes, session_decodes}
 use Rattle.hb_core.specs.CoreSeen.{core_disk, core_seen}
 use Rattle.hb_core.specs.Moving.{placed}
 use Rattle.hb_core.specs.Showing.{RunningCore}
@@ -51,8 +51,8 @@ returns-then-actor-eq-POSTER-clause-row g c =
 
 pub returns-then-actor-eq-POSTER-clause-memory : goal.returns-then-actor-eq-POSTER-clause-memory
 returns-then-actor-eq-POSTER-clause-memory g c =
-    on_err_weaker c.ask_poster.result (λ stays m has.
-    poster_decodes (g.D.Device.model (core_disk c.args.self.now)) (core_seen c.args.self.now) m c.args.actor c.args.free c.requires.actor has c.replace-state.result c.replace-state.ensures.old c.if-actor-eq-POSTER.true stays) c.ask_poster.ensures.memory
+    on_err_weaker c.ask_poster.result (λ again m has.
+    poster_decodes (g.D.Device.model (core_disk c.args.self.now)) (core_seen c.args.self.now) m c.args.actor c.args.free c.requires.actor has c.replace-state.result c.replace-state.ensures.old again) c.ask_poster.ensures.memory
 
 pub returns-else-actor-eq-CONSOLIDATOR-clause-row : goal.returns-else-actor-eq-CONSOLIDATOR-clause-row
 returns-else-actor-eq-CONSOLIDATOR-clause-row g c =
@@ -73,13 +73,7 @@ ask_merger-requires g c =
     c.replace-state.ensures.old (c.requires.wanted has.0 has.1) (ap (λ (core : RunningCore). core.store) c.replace-state.ensures.new.does) c.if-actor-eq-CONSOLIDATOR.true c.knows_point.ensures
 
 pub returns-then-actor-eq-CONSOLIDATOR-clause-row : goal.returns-then-actor-eq-CONSOLIDATOR-clause-row
-returns-then-actor-eq-CONSOLIDATOR-clause-row g c =
-    IfOk-weaker c.ask_merger.result _ _ (λ next row m has.
+returns-then-actor-eq-CONSOLIDATOR-clause-row g c m has =
     decided_merger (g.D.Device.model (core_disk c.args.self.now)) (core_seen c.args.self.now) m c.args.actor c.args.free c.requires.actor has c.replace-state.result c.args.wanted (core_seen c.replace-state.new.self).store
-    (λ (activity : Activity). placed (length m.order) (deed_of activity next)) c.replace-state.ensures.old (c.requires.wanted m has) (ap (λ (core : RunningCore). core.store) c.replace-state.ensures.new.does)
-    c.if-actor-eq-CONSOLIDATOR.true (row (length m.order))) c.ask_merger.ensures.row
-
-pub returns-then-actor-eq-CONSOLIDATOR-clause-memory : goal.returns-then-actor-eq-CONSOLIDATOR-clause-memory
-returns-then-actor-eq-CONSOLIDATOR-clause-memory g c =
-    on_err_weaker c.ask_merger.result (λ stays m has.
-    merger_decodes (g.D.Device.model (core_disk c.args.self.now)) (core_seen c.args.self.now) m c.args.actor c.args.free c.requires.actor has c.replace-state.result c.replace-state.ensures.old c.if-actor-eq-CONSOLIDATOR.true stays) c.ask_merger.ensures.memory
+    (λ (activity : Activity). placed (length m.order) (deed_of activity c.ask_merger.result)) c.replace-state.ensures.old (c.requires.wanted m has) (ap (λ (core : RunningCore). core.store) c.replace-state.ensures.new.does)
+    c.if-actor-eq-CONSOLIDATOR.true (c.ask_merger.ensures (length m.order))

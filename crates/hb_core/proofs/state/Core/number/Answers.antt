@@ -1,36 +1,29 @@
-use Rattle.std.proofs.Common.{Err, ap, inl, inr, refl, subst, sym, ◌∙◌}
+use Rattle.std.proofs.Common.{Err, ap, inl, inr, refl, sym, ◌∙◌}
 use Rattle.std.proofs.lemmas.Bool.{false≢true}
 use Rattle.hb_store.specs.Seen.{seen_as, uses_of}
 use Rattle.hb_core.specs.CoreSeen.{core_seen}
-use Rattle.hb_core.specs.Working.{HaltsPinned}
-use Rattle.hb_core.specs.declared.halts.Halt.{Halt}
 use Rattle.hb_core.proofs.Running.Counted.{pages_may}
-use Rattle.hb_core.proofs.Running.Numbered.{came_by_chain, head_halts, head_not_crowded, none_given, number_refused, number_then, reads_halted, reads_on}
+use Rattle.hb_core.proofs.Running.Numbered.{came_by_chain, head_halts, head_not_crowded, none_given, number_then, reads_halted, reads_on}
 use Rattle.hb_core.proofs.state.Core.number.Goals as goal
 
-pub returns-in-Ok-false-clause-numbered : goal.returns-in-Ok-false-clause-numbered
-returns-in-Ok-false-clause-numbered g c m come =
-    none_given m (g.D.Device.model c.args.self.now.store.disk) (core_seen c.args.self.now) c.args.actor come (λ needs. false≢true (sym c.in-Ok-false.field-0-test ∙ (c.in-Ok-false.ensures.needs m come).1 needs))
-
-pub returns-in-Err-clause-halts : goal.returns-in-Err-clause-halts
-returns-in-Err-clause-halts g c m come =
-    subst (λ (h : Halt). HaltsPinned m c.args.actor h (g.D.Device.model c.args.self.now.store.disk) (core_seen c.args.self.now)) (sym c.from.ensures)
-    (number_refused m (g.D.Device.model c.args.self.now.store.disk) (core_seen c.args.self.now) c.args.actor c.requires.actor come (c.in-Err.ensures.memory m come))
+pub returns-then-needs_number-clause-numbered : goal.returns-then-needs_number-clause-numbered
+returns-then-needs_number-clause-numbered g c m come =
+    none_given m (g.D.Device.model c.args.self.now.store.disk) (core_seen c.args.self.now) c.args.actor come (λ needs. false≢true (sym c.if-needs_number.false ∙ (c.needs_number.ensures m come).1 needs))
 
 pub halt_of-requires : goal.halt_of-requires
 halt_of-requires g c is =
-    head_not_crowded c.requires.come.0 (g.D.Device.model c.args.self.now.store.disk) (core_seen c.args.self.now) c.args.actor c.requires.come.1 ((c.in-Ok-true.ensures.needs c.requires.come.0 c.requires.come.1).0 c.in-Ok-true.field-0-test)
+    head_not_crowded c.requires.come.0 (g.D.Device.model c.args.self.now.store.disk) (core_seen c.args.self.now) c.args.actor c.requires.come.1 ((c.needs_number.ensures c.requires.come.0 c.requires.come.1).0 c.if-needs_number.true)
     (c.in-Err-next.ensures.crowded (ap Err is)).1
 
 pub returns-in-Ok-clause-numbered : goal.returns-in-Ok-clause-numbered
 returns-in-Ok-clause-numbered g c m come =
-    number_then m (g.D.Device.model c.args.self.now.store.disk) (core_seen c.args.self.now) c.args.actor c.requires.actor come ((c.in-Ok-true.ensures.needs m come).0 c.in-Ok-true.field-0-test)
+    number_then m (g.D.Device.model c.args.self.now.store.disk) (core_seen c.args.self.now) c.args.actor c.requires.actor come ((c.needs_number.ensures m come).0 c.if-needs_number.true)
     (g.D.Device.model c.next_page-next.new.self.disk) _ (seen_as c.next_page-next.new.self) c.in-Ok.ensures.looks c.stands_well.ensures.store.memory c.in-Ok.ensures.brings.fetched c.in-Ok.ensures.brings.stays
     (uses_of c.next_page-next.new.self) c.in-Ok.ensures.uses c.stands_well.ensures.tied c.in-Ok.next c.in-Ok.ensures.next c.in-Ok.ensures.room
 
 pub returns-in-Err-next-clause-halts : goal.returns-in-Err-next-clause-halts
 returns-in-Err-next-clause-halts g c m come =
-    head_halts m (g.D.Device.model c.args.self.now.store.disk) (core_seen c.args.self.now) c.args.actor c.requires.actor come ((c.in-Ok-true.ensures.needs m come).0 c.in-Ok-true.field-0-test)
+    head_halts m (g.D.Device.model c.args.self.now.store.disk) (core_seen c.args.self.now) c.args.actor c.requires.actor come ((c.needs_number.ensures m come).0 c.if-needs_number.true)
     (g.D.Device.model c.next_page-next.new.self.disk) _ (seen_as c.next_page-next.new.self) c.in-Err-next.ensures.looks c.stands_well.ensures.store.memory c.in-Err-next.ensures.brings.fetched c.in-Err-next.ensures.brings.stays
     (uses_of c.next_page-next.new.self) c.in-Err-next.ensures.brings.used (came_by_chain (core_seen c.args.self.now).store.meta (core_seen c.args.self.now).uses (uses_of c.next_page-next.new.self) (λ none. (c.in-Err-next.ensures.unread (inr (inl none))).2)) c.stands_well.ensures.tied
     c.in-Err-next.stop c.halt_of.result c.halt_of.ensures c.in-Err-next.ensures.why c.in-Err-next.ensures.sound
