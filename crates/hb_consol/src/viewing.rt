@@ -79,7 +79,7 @@ fn next_of_pair(
     page: &PageView<'_>,
     meta: &Meta,
 ) -> Next
-    requires { IsAskedToMergeAt state meta.now page.now (Some above.now) (Some kept.now) }
+    requires asked { IsAskedToMergeAt state meta.now page.now (Some above.now) (Some kept.now) }
     requires pair { HasPair state }
     ensures { IsMergerRowAt state meta.now id page.now (Some above.now) (Some kept.now) result }
 {
