@@ -5,7 +5,7 @@
     trials/pages/random_pages.py build OUT
 
 KIND is audit, choose, carve, normal, plan, view or spoiled. It copies the repository's sources into a temporary
-folder, puts program.txt and views.txt there as one more program, runs it unproved (`rt try`) on COUNT cases, and
+folder, puts program.txt, views.txt and beside.txt there as one more program, runs it unproved (`rt try`) on COUNT cases, and
 compares each answer with the model's. It prints how many cases there were of each answer, and the
 first cases that differ. The status is 0 where none does. `build` builds that program with optimisation as OUT, which
 is run where TRIAL_PROGRAM names it.
@@ -117,7 +117,7 @@ def copy_to(top):
         f.write(lines + f"page_trial: {USES}\n")
     place = os.path.join(top, "crates", "page_trial")
     os.makedirs(os.path.join(place, "src"))
-    for text, source in (("program.txt", "main.rt"), ("views.txt", "views.rt")):
+    for text, source in (("program.txt", "main.rt"), ("views.txt", "views.rt"), ("beside.txt", "beside.rt")):
         shutil.copy(os.path.join(HERE, text), os.path.join(place, "src", source))
     return place
 

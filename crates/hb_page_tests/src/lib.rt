@@ -39,6 +39,8 @@ mod replies;
 #[cfg(test)]
 mod rows;
 #[cfg(test)]
+mod seen;
+#[cfg(test)]
 mod spelled;
 #[cfg(test)]
 mod splits;

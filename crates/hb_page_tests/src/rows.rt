@@ -2,7 +2,7 @@
 
 use crate::replies::Reply;
 use crate::{
-    boxes, carving, changes, great_pages, groups, layouts, pages, places, plans, splits, views,
+    boxes, carving, changes, great_pages, groups, layouts, pages, places, plans, seen, splits, views,
 };
 use std::alloc::Global;
 use std::process::Abort;
@@ -39,6 +39,7 @@ fn answer(reply: &mut Reply, kind: &str, question: &str) {
         "long" => pages::long(reply, question),
         "view" => views::view(reply, question),
         "asked" => great_pages::asked(reply, question),
+        "seen" => seen::seen(reply, question),
         "groups" => groups::groups(reply, question),
         "points" => splits::points(reply, question),
         "steps" => splits::steps(reply, question),
@@ -74,7 +75,7 @@ fn expect_all(rt: &impl Abort, alloc: Global, rows: &str) {
     }
 }
 
-const TABLES: [&str; 11] = [
+const TABLES: [&str; 12] = [
     boxes::ROWS,
     layouts::ROWS,
     places::ROWS,
@@ -83,6 +84,7 @@ const TABLES: [&str; 11] = [
     pages::ROWS,
     views::ROWS,
     great_pages::ROWS,
+    seen::ROWS,
     groups::ROWS,
     splits::ROWS,
     plans::ROWS,

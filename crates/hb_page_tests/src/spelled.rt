@@ -208,8 +208,8 @@ fn leaf_weight(leaf: &Leaf) -> Option<u32>
     }
 }
 
-// What the leaves weigh together, where it is below 2^32.
-fn weight(frag: &Frag) -> Option<u32>
+/// What the leaves weigh together, where it is below 2^32.
+pub(crate) fn weight(frag: &Frag) -> Option<u32>
     ensures { IfSome result (λ w. w ≡ weight_of frag.now) }
 {
     match &frag.node {

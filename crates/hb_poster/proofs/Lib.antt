@@ -5,3 +5,4 @@ pub mod PostExamples
 pub mod SiblingLeaves
 pub mod ViewedWalks
 pub mod OwedSeen
+pub mod ViewedSteps

@@ -3,7 +3,7 @@ use Rattle.std.proofs.Common.{◌≡◌, ◌≢◌, ◌⊎◌, ◌↔◌, inl, i
 use Rattle.std.proofs.lemmas.Bool.{cases_lt, false≢true}
 use Rattle.std.proofs.lemmas.Option.{same_Some}
 use Rattle.hb_activity.proofs.Facts.GivenPages.{first_given}
-use Rattle.hb_activity.specs.Deciding.{NextIs, deed_of, given_sight}
+use Rattle.hb_activity.specs.Deciding.{NextIs, cutting_sight, deed_of}
 use Rattle.hb_activity.specs.declared.activities.Activity.{Activity}
 use Rattle.hb_activity.specs.declared.deciding.Fate.TheVariants as fates
 use Rattle.hb_activity.specs.declared.deciding.Next.{Next}
@@ -33,6 +33,7 @@ use Rattle.hb_poster.specs.Owed.{AreBoth, CanBeSplit, IsOtherNamed, IsOwedSo, Ma
 use Rattle.hb_poster.specs.PosterRows.{LooksAgain, LooksAtChild, SplitsParent, ends_job}
 use Rattle.hb_poster.specs.declared.owed.Owed.{Owed}
 use Rattle.hb_space.specs.Boxes.{Area, IsArea, Holds}
+use Rattle.hb_split.specs.declared.rules.CutRule.{CutRule}
 use Rattle.hb_terms.proofs.Facts.Owing.{one_plan, room_told}
 use Rattle.hb_terms.specs.Plans.{IsPlan}
 use Rattle.hb_terms.specs.declared.plans.PostPlan.{PostPlan}
@@ -118,30 +119,30 @@ module _ (meta : Meta) (job : Job) (over child : LivePage) (looks : LooksBelow m
 
   -- ---- the rows
 
-  module _ (parent id : ℕ) (free : Option (ℕ × ℕ)) where
+  module _ (rule : CutRule) (parent id : ℕ) (free : Option (ℕ × ℕ)) where
     -- some plan is made, whichever it is, and the parent is promoted
-    pub promotes : (deed : Deed) → deed ≡ moves_to (at.PosterPromote job parent) [] → LooksAtChild (given_sight meta ((parent, over) ∷ (id, child) ∷ []) free) job parent child deed
+    pub promotes : (deed : Deed) → deed ≡ moves_to (at.PosterPromote job parent) [] → LooksAtChild (cutting_sight rule meta ((parent, over) ∷ (id, child) ∷ []) free) job parent child deed
     promotes deed is = elim room_or_none [
       | inl room ↦ record { page = over; live = first_given parent over ((id, child) ∷ []); plan = plans.Post (way_to job.point over.frag) owed.inner owed.area; planned = posts_there room; deed_is = is }
       | inr lacks ↦ record { page = over; live = first_given parent over ((id, child) ∷ []); plan = plans.SplitFirst; planned = lacks; deed_is = is }
     ]
 
     -- no number is given: the parent has room, or no page is free
-    pub posts_row : (deed : Deed) → (LacksRoom over child job.point meta.icap → ⊥) → deed ≡ does at.PosterIdle (ops.Post parent (way_to job.point over.frag) owed.inner owed.area) (job ∷ []) → LooksAgain (given_sight meta ((parent, over) ∷ (id, child) ∷ []) free) job parent child deed
+    pub posts_row : (deed : Deed) → (LacksRoom over child job.point meta.icap → ⊥) → deed ≡ does at.PosterIdle (ops.Post parent (way_to job.point over.frag) owed.inner owed.area) (job ∷ []) → LooksAgain (cutting_sight rule meta ((parent, over) ∷ (id, child) ∷ []) free) job parent child deed
     posts_row deed has is = elim room_or_none [
       | inl room ↦ record { page = over; live = first_given parent over ((id, child) ∷ []); plan = plans.Post (way_to job.point over.frag) owed.inner owed.area; planned = posts_there room; does_it = is }
       | inr lacks ↦ absurd (has lacks)
     ]
 
-    pub full_row : (deed : Deed) → LacksRoom over child job.point meta.icap → meta.live ≡ meta.pages → deed ≡ ends_job → LooksAgain (given_sight meta ((parent, over) ∷ (id, child) ∷ []) free) job parent child deed
+    pub full_row : (deed : Deed) → LacksRoom over child job.point meta.icap → meta.live ≡ meta.pages → deed ≡ ends_job → LooksAgain (cutting_sight rule meta ((parent, over) ∷ (id, child) ∷ []) free) job parent child deed
     full_row deed lacks full is = record { page = over; live = first_given parent over ((id, child) ∷ []); plan = plans.SplitFirst; planned = lacks; does_it = inl (record { none_free = full; deed_is = is }) }
 
 -- where none is owed the job ends, at a look and at a look again
-pub nothing_row : (meta : Meta) (job : Job) (over child : LivePage) (parent id : ℕ) (free : Option (ℕ × ℕ)) (deed : Deed) → OwesNothing over child job.point → deed ≡ ends_job → LooksAgain (given_sight meta ((parent, over) ∷ (id, child) ∷ []) free) job parent child deed
-nothing_row meta job over child parent id free deed none is = record { page = over; live = first_given parent over ((id, child) ∷ []); plan = plans.Nothing; planned = none; does_it = is }
+pub nothing_row : (rule : CutRule) (meta : Meta) (job : Job) (over child : LivePage) (parent id : ℕ) (free : Option (ℕ × ℕ)) (deed : Deed) → OwesNothing over child job.point → deed ≡ ends_job → LooksAgain (cutting_sight rule meta ((parent, over) ∷ (id, child) ∷ []) free) job parent child deed
+nothing_row rule meta job over child parent id free deed none is = record { page = over; live = first_given parent over ((id, child) ∷ []); plan = plans.Nothing; planned = none; does_it = is }
 
-pub ends_row : (meta : Meta) (job : Job) (over child : LivePage) (parent id : ℕ) (free : Option (ℕ × ℕ)) (deed : Deed) → OwesNothing over child job.point → deed ≡ ends_job → LooksAtChild (given_sight meta ((parent, over) ∷ (id, child) ∷ []) free) job parent child deed
-ends_row meta job over child parent id free deed none is = record { page = over; live = first_given parent over ((id, child) ∷ []); plan = plans.Nothing; planned = none; deed_is = is }
+pub ends_row : (rule : CutRule) (meta : Meta) (job : Job) (over child : LivePage) (parent id : ℕ) (free : Option (ℕ × ℕ)) (deed : Deed) → OwesNothing over child job.point → deed ≡ ends_job → LooksAtChild (cutting_sight rule meta ((parent, over) ∷ (id, child) ∷ []) free) job parent child deed
+ends_row rule meta job over child parent id free deed none is = record { page = over; live = first_given parent over ((id, child) ∷ []); plan = plans.Nothing; planned = none; deed_is = is }
 
 -- a number tells that the parent has no room, and where none is given and a page is free it has
 pub has_room_untold : (meta : Meta) (job : Job) (parent : ℕ) (over child : LivePage) → TellsNumber (at.PosterAgain job parent) meta child (Some over) None → meta.live < meta.pages → LacksRoom over child job.point meta.icap → ⊥
@@ -166,17 +167,17 @@ none_lacks (Free next) child p icap none = absurd none
 pub moved_is : (activity then : Activity) (next : Next) → NextIs next then None [] fates.GoesOn → deed_of activity next ≡ deed_of activity (record { then = then; op = None; jobs = record { items = [] }; fate = fates.GoesOn })
 moved_is activity then next is = λ i. deed_of activity (record { then = is.stands i; op = is.op i; jobs = record { items = is.jobs i }; fate = is.fate i })
 
-pub look_none : (over child : Page) (meta : Meta) (job : Job) (parent id : ℕ) (next : Next) → AreBoth over child (λ above below. OwesTo above below job.point None) → NextIs next at.PosterIdle None [] fates.GoesOn → (free : Option (ℕ × ℕ)) → IsRowBelow (at.PosterChild job parent) meta parent id over child free next
-look_none (Live over) (Live child) meta job parent id next none is free = ends_row meta job over child parent id free (deed_of (at.PosterChild job parent) next) none (moved_is (at.PosterChild job parent) at.PosterIdle next is)
-look_none (Live over) (Free other) meta job parent id next none is free = absurd none
-look_none (Free other) child meta job parent id next none is free = absurd none
+pub look_none : (over child : Page) (meta : Meta) (job : Job) (parent id : ℕ) (next : Next) → AreBoth over child (λ above below. OwesTo above below job.point None) → NextIs next at.PosterIdle None [] fates.GoesOn → (rule : CutRule) (free : Option (ℕ × ℕ)) → IsRowBelow rule (at.PosterChild job parent) meta parent id over child free next
+look_none (Live over) (Live child) meta job parent id next none is rule free = ends_row rule meta job over child parent id free (deed_of (at.PosterChild job parent) next) none (moved_is (at.PosterChild job parent) at.PosterIdle next is)
+look_none (Live over) (Free other) meta job parent id next none is rule free = absurd none
+look_none (Free other) child meta job parent id next none is rule free = absurd none
 
 pub look_some : (over child : Page) (meta : Meta) (job : Job) (parent id : ℕ) (next : Next) (owed : Owed) → MayLookBelow meta job over child → AreBoth over child (λ above below. OwesTo above below job.point (Some owed)) → NextIs next (at.PosterPromote job parent) None [] fates.GoesOn
-    → (free : Option (ℕ × ℕ)) → IsRowBelow (at.PosterChild job parent) meta parent id over child free next
-look_some (Live over) (Live child) meta job parent id next owed may so is free =
-    promotes meta job over child may.both.1 owed so parent id free (deed_of (at.PosterChild job parent) next) (moved_is (at.PosterChild job parent) (at.PosterPromote job parent) next is)
-look_some (Live over) (Free other) meta job parent id next owed may so is free = absurd so
-look_some (Free other) child meta job parent id next owed may so is free = absurd so
+    → (rule : CutRule) (free : Option (ℕ × ℕ)) → IsRowBelow rule (at.PosterChild job parent) meta parent id over child free next
+look_some (Live over) (Live child) meta job parent id next owed may so is rule free =
+    promotes meta job over child may.both.1 owed so rule parent id free (deed_of (at.PosterChild job parent) next) (moved_is (at.PosterChild job parent) (at.PosterPromote job parent) next is)
+look_some (Live over) (Free other) meta job parent id next owed may so is rule free = absurd so
+look_some (Free other) child meta job parent id next owed may so is rule free = absurd so
 
 -- ---- a page that gave a part of its box away
 
@@ -208,30 +209,30 @@ gave_none (Free next) seen none so = absurd so
 
 -- ---- a look again, of views
 
-module _ (meta : Meta) (job : Job) (parent id : ℕ) (next : Next) where
-  pub again_none : (over child : Page) → AreBoth over child (λ above below. OwesTo above below job.point None) → NextIs next at.PosterIdle None [] fates.GoesOn → (free : Option (ℕ × ℕ)) → IsRowBelow (at.PosterAgain job parent) meta parent id over child free next
-  again_none (Live over) (Live child) none is free = nothing_row meta job over child parent id free (deed_of (at.PosterAgain job parent) next) none (moved_is (at.PosterAgain job parent) at.PosterIdle next is)
+module _ (rule : CutRule) (meta : Meta) (job : Job) (parent id : ℕ) (next : Next) where
+  pub again_none : (over child : Page) → AreBoth over child (λ above below. OwesTo above below job.point None) → NextIs next at.PosterIdle None [] fates.GoesOn → (free : Option (ℕ × ℕ)) → IsRowBelow rule (at.PosterAgain job parent) meta parent id over child free next
+  again_none (Live over) (Live child) none is free = nothing_row rule meta job over child parent id free (deed_of (at.PosterAgain job parent) next) none (moved_is (at.PosterAgain job parent) at.PosterIdle next is)
   again_none (Live over) (Free other) none is free = absurd none
   again_none (Free other) child none is free = absurd none
 
   -- no page is free, and the parent has no room
   pub again_full : (over child : Page) (owed : Owed) (has : Bool) → MayLookBelow meta job over child → AreBoth over child (λ above below. OwesTo above below job.point (Some owed)) → AreBoth over child (λ above below. TellsNumber (at.PosterAgain job parent) meta below (Some above) None)
-      → AreBoth over child (λ above below. IsTrue has ↔ (¬ (LacksRoom above below job.point meta.icap))) → has ≡ false → NextIs next at.PosterIdle None [] fates.GoesOn → IsRowBelow (at.PosterAgain job parent) meta parent id over child None next
+      → AreBoth over child (λ above below. IsTrue has ↔ (¬ (LacksRoom above below job.point meta.icap))) → has ≡ false → NextIs next at.PosterIdle None [] fates.GoesOn → IsRowBelow rule (at.PosterAgain job parent) meta parent id over child None next
   again_full (Live over) (Live child) owed has may so number tells none is =
       let lacks : LacksRoom over child job.point meta.icap = elim (room_or_none meta job over child may.both.1 owed so) [
         | inl room ↦ absurd (false≢true (sym none ∙ tells.1 (never_both meta job over child may.both.1 owed so room)))
         | inr lacks ↦ lacks
       ] in
-      full_row meta job over child may.both.1 owed so parent id None (deed_of (at.PosterAgain job parent) next) lacks (number.fits lacks) (moved_is (at.PosterAgain job parent) at.PosterIdle next is)
+      full_row meta job over child may.both.1 owed so rule parent id None (deed_of (at.PosterAgain job parent) next) lacks (number.fits lacks) (moved_is (at.PosterAgain job parent) at.PosterIdle next is)
   again_full (Live over) (Free other) owed has may so number tells none is = absurd so
   again_full (Free other) child owed has may so number tells none is = absurd so
 
   -- a number is given: the parent is split
   pub again_splits : (over child : Page) (number : ℕ × ℕ) → AreBoth over child (λ above below. TellsNumber (at.PosterAgain job parent) meta below (Some above) (Some number))
-      → IsLiveAnd over (λ page. (s : Sight) → s.meta.live < s.meta.pages → s.next ≡ Some number → SplitsParent s job parent page (deed_of (at.PosterAgain job parent) next)) → IsRowBelow (at.PosterAgain job parent) meta parent id over child (Some number) next
+      → IsLiveAnd over (λ page. (s : Sight) → s.rule ≡ rule → s.meta.live < s.meta.pages → s.next ≡ Some number → SplitsParent s job parent page (deed_of (at.PosterAgain job parent) next)) → IsRowBelow rule (at.PosterAgain job parent) meta parent id over child (Some number) next
   again_splits (Live over) (Live child) number tells splits =
-      let s = given_sight meta ((parent, over) ∷ (id, child) ∷ []) (Some number) in
-      record { page = over; live = first_given parent over ((id, child) ∷ []); plan = plans.SplitFirst; planned = tells.makes; does_it = inr (splits s (tells.fits tells.makes) refl) }
+      let s = cutting_sight rule meta ((parent, over) ∷ (id, child) ∷ []) (Some number) in
+      record { page = over; live = first_given parent over ((id, child) ∷ []); plan = plans.SplitFirst; planned = tells.makes; does_it = inr (splits s refl (tells.fits tells.makes) refl) }
   again_splits (Live over) (Free other) number tells splits = absurd tells
   again_splits (Free other) child number tells splits = absurd tells
 
@@ -256,10 +257,10 @@ has_by_free (Live over) (Live child) meta job parent number free = has_room_unto
 has_by_free (Live over) (Free other) meta job parent number free = absurd number
 has_by_free (Free other) child meta job parent number free = absurd number
 
-pub again_posts : (meta : Meta) (job : Job) (parent id : ℕ) (next : Next) (over child : Page) (owed : Owed) (way : List Side) → MayLookBelow meta job over child → AreBoth over child (λ above below. OwesTo above below job.point (Some owed)) → AreBoth over child (λ above below. LacksRoom above below job.point meta.icap → ⊥)
-    → IsLiveAnd over (λ page. way ≡ way_to job.point page.frag) → NextIs next at.PosterIdle (Some (ops.Post parent way owed.inner owed.area)) (job ∷ []) fates.GoesOn → (free : Option (ℕ × ℕ)) → IsRowBelow (at.PosterAgain job parent) meta parent id over child free next
-again_posts meta job parent id next (Live over) (Live child) owed way may so has leads is free =
+pub again_posts : (rule : CutRule) (meta : Meta) (job : Job) (parent id : ℕ) (next : Next) (over child : Page) (owed : Owed) (way : List Side) → MayLookBelow meta job over child → AreBoth over child (λ above below. OwesTo above below job.point (Some owed)) → AreBoth over child (λ above below. LacksRoom above below job.point meta.icap → ⊥)
+    → IsLiveAnd over (λ page. way ≡ way_to job.point page.frag) → NextIs next at.PosterIdle (Some (ops.Post parent way owed.inner owed.area)) (job ∷ []) fates.GoesOn → (free : Option (ℕ × ℕ)) → IsRowBelow rule (at.PosterAgain job parent) meta parent id over child free next
+again_posts rule meta job parent id next (Live over) (Live child) owed way may so has leads is free =
     let done : deed_of (at.PosterAgain job parent) next ≡ does at.PosterIdle (ops.Post parent way owed.inner owed.area) (job ∷ []) = λ i. deed_of (at.PosterAgain job parent) (record { then = is.stands i; op = is.op i; jobs = record { items = is.jobs i }; fate = is.fate i }) in
-    posts_row meta job over child may.both.1 owed so parent id free (deed_of (at.PosterAgain job parent) next) has (done ∙ ap (λ (w : List Side). does at.PosterIdle (ops.Post parent w owed.inner owed.area) (job ∷ [])) leads)
-again_posts meta job parent id next (Live over) (Free other) owed way may so has leads is free = absurd so
-again_posts meta job parent id next (Free other) child owed way may so has leads is free = absurd so
+    posts_row meta job over child may.both.1 owed so rule parent id free (deed_of (at.PosterAgain job parent) next) has (done ∙ ap (λ (w : List Side). does at.PosterIdle (ops.Post parent w owed.inner owed.area) (job ∷ [])) leads)
+again_posts rule meta job parent id next (Live over) (Free other) owed way may so has leads is free = absurd so
+again_posts rule meta job parent id next (Free other) child owed way may so has leads is free = absurd so
