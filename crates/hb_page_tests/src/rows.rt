@@ -2,7 +2,8 @@
 
 use crate::replies::Reply;
 use crate::{
-    boxes, carving, changes, great_pages, groups, layouts, pages, places, plans, seen, splits, views,
+    boxes, carving, changes, great_pages, groups, layouts, pages, places, plans, seen, splits,
+    views,
 };
 use std::alloc::Global;
 use std::process::Abort;

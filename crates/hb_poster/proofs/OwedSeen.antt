@@ -25,18 +25,16 @@ use Rattle.hb_frag.specs.declared.pages.LivePage.{LivePage}
 use Rattle.hb_frag.specs.declared.pages.Page.{Page}
 use Rattle.hb_frag.specs.declared.pages.Page.TheVariants.{Live, Free}
 use Rattle.hb_layout.specs.declared.meta.Meta.{Meta}
-use Rattle.hb_ops.specs.Owing.{IsOwed, LacksRoom, OwesNothing, Posts, posted_parent}
+use Rattle.hb_ops.specs.Owing.{LacksRoom, OwesNothing, Posts, posted_parent}
 use Rattle.hb_ops.specs.declared.operations.Op.TheVariants as ops
 use Rattle.hb_poster.proofs.Facts.ParentWeights.{heavy_parent, light_parent}
 use Rattle.hb_poster.specs.Asks.{LooksBelow, TellsNumber}
 use Rattle.hb_poster.specs.Owed.{AreBoth, CanBeSplit, IsOtherNamed, IsOwedSo, MayLookBelow, OwesTo}
 use Rattle.hb_poster.specs.PosterRows.{LooksAgain, LooksAtChild, SplitsParent, ends_job}
 use Rattle.hb_poster.specs.declared.owed.Owed.{Owed}
-use Rattle.hb_space.specs.Boxes.{Area, IsArea, Holds}
+use Rattle.hb_space.specs.Boxes.{Area, IsArea}
 use Rattle.hb_split.specs.declared.rules.CutRule.{CutRule}
 use Rattle.hb_terms.proofs.Facts.Owing.{one_plan, room_told}
-use Rattle.hb_terms.specs.Plans.{IsPlan}
-use Rattle.hb_terms.specs.declared.plans.PostPlan.{PostPlan}
 use Rattle.hb_terms.specs.declared.plans.PostPlan.TheVariants as plans
 use Rattle.hb_view.specs.Views.{IsLiveAnd, ShowsLeaf, leaf_view}
 use Rattle.hb_view.specs.declared.leaves.LeafView.{LeafView}

@@ -1,6 +1,6 @@
 -- What a step of the poster comes to where its pages are read from their bytes, and whether it takes a number, by where the poster
 -- stands.
-use Rattle.std.proofs.Common.{◌≡◌, ◌↔◌, inl, inr, ℕ, ◌<◌, ◌==◌, Bool, IsTrue, List, [], ◌∷◌, Option, Some, None}
+use Rattle.std.proofs.Common.{◌↔◌, inl, inr, ℕ, ◌<◌, ◌==◌, Bool, IsTrue, List, [], ◌∷◌, Option, Some, None}
 use Rattle.std.proofs.lemmas.Bool.{cases_Bool, eqb-false, eqb-true}
 use Rattle.hb_activity.specs.Deciding.{NextIs, cutting_sight, deed_of, given_sight}
 use Rattle.hb_activity.specs.Sights.{Sight}

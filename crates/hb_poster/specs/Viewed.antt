@@ -1,14 +1,11 @@
 -- A row at a page that is read from its bytes, beside its parent's.
 use Rattle.std.specs.Prelude.{ℕ, List, [], ◌∷◌, Option}
-use Rattle.hb_frag.specs.declared.pages.LivePage.{LivePage}
 use Rattle.hb_frag.specs.declared.pages.Page.{Page}
 use Rattle.hb_layout.specs.declared.meta.Meta.{Meta}
 use Rattle.hb_ops.specs.Files.{if_live}
 use Rattle.hb_activity.specs.declared.activities.Activity.{Activity}
 use Rattle.hb_activity.specs.declared.deciding.Next.{Next}
-use Rattle.hb_activity.specs.declared.jobs.Job.{Job}
 use Rattle.hb_activity.specs.Deciding.{cutting_sight, deed_of, given_pages}
-use Rattle.hb_poster.specs.Asks.{TellsNumber}
 use Rattle.hb_poster.specs.Owed.{AreBoth}
 use Rattle.hb_poster.specs.PosterRows.{PosterRow}
 use Rattle.hb_split.specs.declared.rules.CutRule.{CutRule}

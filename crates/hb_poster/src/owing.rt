@@ -50,7 +50,11 @@ pub(crate) fn has_room(
     requires owed { AreBoth over.now child.now (λ above below. IsOwedSo above below job.now.point owed.now) }
     ensures { AreBoth over.now child.now (λ above below. IsTrue result ↔ (¬ (LacksRoom above below job.now.point meta.now.icap))) }
 {
-    are_light(over.weight(), carved_weight(&owed.leaf, &owed.area), meta.icap)
+    are_light(
+        over.weight(),
+        carved_weight(&owed.leaf, &owed.area),
+        meta.icap,
+    )
 }
 
 // Whether two weights are at most one more than may be.
@@ -61,12 +65,7 @@ fn are_light(weight: u32, more: u32, icap: u16) -> bool
 }
 
 /// Whether the parent has no room for what is owed. Where nothing is, it isn't so.
-pub(crate) fn lacks_room(
-    job: &Job,
-    over: &PageView<'_>,
-    child: &PageView<'_>,
-    meta: &Meta,
-) -> bool
+pub(crate) fn lacks_room(job: &Job, over: &PageView<'_>, child: &PageView<'_>, meta: &Meta) -> bool
     requires { MayLookBelow meta.now job.now over.now child.now }
     ensures { AreBoth over.now child.now (λ above below. IsTrue result ↔ LacksRoom above below job.now.point meta.now.icap) }
 {

@@ -1,5 +1,5 @@
 -- What a decider is asked: a core that has the pages of a step has all that the decider relies on.
-use Rattle.hb_core.proofs.Running.Names.{◌≡◌, ◌≢◌, inl, inr, ℕ, ◌-◌, ◌<◌, ◌≤◌, List, Option, Some, None, IsSome, IfSome, refl, sym, ap, ◌∙◌, subst, arith, option_and_then, option_map, cases_lt, same_Some, DiskModel, Area, IsPoint, Record, LivePage, Placed, Mode, Shared, Exclusive, IsActor, Meta, if_live, Command, Insert, Delete, Lookup, Search, Line, Job, Wanted, Activity, Posters, Sessions, class_of, FitsFree, LeadsBelow, goal_of, job_mode, session_mode, walk_held, walk_point, child_of, in_mode, named_child, walk_next, wanted_of, wanted_page, WantsBoxes, MakesPage, MayBeAsked, StoreState, at_value, has_value, some_value, corner_ahead, has_last, fetched_fits, children_may_be_asked, AnyPage, NeedsNumber, looked_live, wanted_by, Brings, MachineKeeps, AtParent, IsMerging, NamesKnown, PairHeld, merging_at, AsksPoint, AsksPoster, AsksSearcher, WalksToSearch, number_of_row, other_page, AsksMerger, second_page, Machine, live_here, next_of, with_disk, IsAtHand, RunningCore, IsWorking, HasPages, with_memory}
+use Rattle.hb_core.proofs.Running.Names.{◌≡◌, ◌≢◌, inl, inr, ℕ, ◌-◌, ◌<◌, ◌≤◌, List, [], Option, Some, None, IsSome, IfSome, refl, sym, ap, ◌∙◌, subst, arith, option_and_then, option_map, cases_lt, same_Some, DiskModel, Area, IsPoint, Record, LivePage, Placed, Mode, Shared, Exclusive, IsActor, Meta, if_live, Command, Insert, Delete, Lookup, Search, Line, Job, Wanted, Activity, Posters, Sessions, class_of, FitsFree, LeadsBelow, goal_of, job_mode, session_mode, walk_held, walk_point, child_of, in_mode, named_child, walk_next, wanted_of, wanted_page, WantsBoxes, MakesPage, MayBeAsked, StoreState, at_value, has_value, some_value, corner_ahead, has_last, fetched_fits, children_may_be_asked, AnyPage, NeedsNumber, looked_live, wanted_by, Brings, MachineKeeps, AtParent, IsMerging, NamesKnown, PairHeld, merging_at, AsksPoint, AsksPoster, AsksSearcher, WalksToSearch, number_of_row, other_page, AsksMerger, second_page, Machine, live_here, next_of, with_disk, IsAtHand, RunningCore, IsWorking, HasPages, with_memory}
 use Rattle.std.proofs.Common.{MatchOption}
 use Rattle.hb_layout.specs.Limits.{IsLayout}
 use Rattle.hb_activity.specs.declared.activities.Activity.TheVariants as at

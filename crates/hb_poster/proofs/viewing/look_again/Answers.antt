@@ -1,4 +1,3 @@
-use Rattle.std.proofs.Common.{◌∙◌, ◌<◌, arith}
 use Rattle.std.proofs.lemmas.Result.{IfOk-weaker}
 use Rattle.hb_poster.proofs.OwedSeen.{again_can_split, again_full, again_none, again_posts, again_splits, has_by_free, has_by_test}
 use Rattle.hb_poster.proofs.viewing.look_again.Goals.{else-meta-via-then-meta+else-not-has_room, else-meta-via-else-meta}
