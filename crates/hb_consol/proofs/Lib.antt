@@ -9,3 +9,4 @@ pub mod ChildrenBehind
 pub mod ViewedParents
 pub mod SeenPairs
 pub mod SeenStarts
+pub mod ViewedRows
