@@ -1,8 +1,7 @@
 -- Walks over the leaves of a parent and of a page that are seen without their records.
-use Rattle.std.proofs.Common.{◌≡◌, ◌≢◌, ℕ, ◌+◌, ◌-◌, ◌<◌, ◌≤◌, ◌==◌, ◌&&◌, ◌||◌, Bool, true, false, cond, List, [], ◌∷◌, length, map, Option, Some, None, refl, sym, ap, ◌∙◌, subst, eq-eqb, ne_eqb, arith}
+use Rattle.std.proofs.Common.{◌≡◌, ℕ, ◌+◌, ◌-◌, ◌<◌, ◌≤◌, ◌==◌, ◌&&◌, ◌||◌, Bool, true, false, cond, List, [], ◌∷◌, map, Option, Some, None, refl, sym, ap, ◌∙◌, eq-eqb, ne_eqb, arith}
 use Rattle.std.specs.List.{list_any}
 use Rattle.std.proofs.lemmas.Bool.{or_left}
-use Rattle.std.proofs.lemmas.List.{length-map}
 use Rattle.hb_consol.proofs.ChildrenBehind.{or_else}
 use Rattle.hb_consol.specs.ConsolidatorRows.{names_child, one_on, pair_among}
 use Rattle.hb_consol.specs.Doing.{earlier_of, sought, sought_on}
@@ -16,7 +15,6 @@ use Rattle.hb_frag.specs.declared.leaves.Leaf.TheVariants as leaf
 use Rattle.hb_frag.specs.declared.pages.LivePage.{LivePage}
 use Rattle.hb_frag.specs.declared.pages.Page.{Page}
 use Rattle.hb_frag.specs.declared.pages.Page.TheVariants.{Live, Free}
-use Rattle.hb_view.specs.LeafWalks.{GivesFirst}
 use Rattle.hb_view.specs.Views.{IsLiveAnd, leaf_view}
 use Rattle.hb_view.specs.declared.leaves.LeafView.{LeafView}
 use Rattle.hb_view.specs.declared.leaves.LeafView.TheVariants as views

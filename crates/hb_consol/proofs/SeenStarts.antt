@@ -1,5 +1,5 @@
 -- Where the walks over leaves begin, and what they come to.
-use Rattle.std.proofs.Common.{◌≡◌, ℕ, ◌+◌, List, [], length, map, Option, refl, sym, ap, ◌∙◌, arith}
+use Rattle.std.proofs.Common.{◌≡◌, ℕ, ◌+◌, List, [], length, map, Option, sym, ap, ◌∙◌, arith}
 use Rattle.std.proofs.lemmas.List.{length-map}
 use Rattle.hb_consol.proofs.ChildrenBehind.{found_behind_child}
 use Rattle.hb_consol.proofs.SeenPairs.{IsNamedIn, LeftPairs, child_views_are, live_so, named_at_first, pairs_at_first, sought_all}

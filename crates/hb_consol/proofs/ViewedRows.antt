@@ -1,15 +1,14 @@
 -- A pair that is tried or decided, where all three pages are read from their bytes: what is planned is the row there.
-use Rattle.std.proofs.Common.{◌≡◌, ◌⊎◌, inl, inr, ℕ, ◌+◌, ◌<◌, ◌≤◌, List, [], ◌∷◌, Option, Some, None, sym, ap, ◌∙◌, subst, arith}
+use Rattle.std.proofs.Common.{◌≡◌, ◌⊎◌, inl, inr, ℕ, ◌+◌, ◌≤◌, List, [], ◌∷◌, Option, Some, None, ap, ◌∙◌, arith}
 use Rattle.hb_activity.specs.Deciding.{NextIs, deed_of, given_sight}
-use Rattle.hb_activity.specs.Deeds.{Deed, moves_to}
+use Rattle.hb_activity.specs.Deeds.{Deed}
 use Rattle.hb_activity.specs.declared.activities.Activity.{Activity}
 use Rattle.hb_activity.specs.declared.activities.Activity.TheVariants as at
 use Rattle.hb_activity.specs.declared.deciding.Fate.TheVariants as fates
 use Rattle.hb_activity.specs.declared.deciding.Next.{Next}
 use Rattle.hb_activity.specs.declared.jobs.Job.{Job}
 use Rattle.hb_consol.proofs.MadeRows.{decides_there, few_leaves, other_plan, tries_there}
-use Rattle.hb_consol.proofs.SeenPairs.{live_so}
-use Rattle.hb_consol.specs.Asks.{DecidesAt, HoldsBoth, IsAskedToMergeAt}
+use Rattle.hb_consol.specs.Asks.{IsAskedToMergeAt}
 use Rattle.hb_consol.specs.ConsolidatorRows.{after_try, ends_merging, pair_from, tries}
 use Rattle.hb_consol.specs.Doing.{PlansMerge}
 use Rattle.hb_consol.specs.MergeRows.{DoesMerge, Merges}
@@ -20,7 +19,6 @@ use Rattle.hb_frag.specs.declared.pages.LivePage.{LivePage}
 use Rattle.hb_frag.specs.declared.pages.Page.{Page}
 use Rattle.hb_frag.specs.declared.pages.Page.TheVariants.{Live, Free}
 use Rattle.hb_layout.specs.declared.meta.Meta.{Meta}
-use Rattle.hb_ops.specs.Sound.{FitsFile}
 use Rattle.hb_terms.specs.declared.merging.MergePlan.{MergePlan}
 use Rattle.hb_terms.specs.declared.merging.MergePlan.TheVariants as plans
 use Rattle.hb_view.specs.Views.{IsLive, IsLiveAnd}
