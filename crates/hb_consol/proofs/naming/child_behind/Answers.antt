@@ -1,4 +1,4 @@
-use Rattle.hb_consol.proofs.SeenStarts.{found_at_end, sought_from_start}
+use Rattle.hb_consol.proofs.SeenPairs.{found_at_end, sought_from_start}
 use Rattle.hb_consol.proofs.naming.child_behind.Goals as goal
 
 pub loop-leaf-init : goal.loop-leaf-init

@@ -1,4 +1,4 @@
-use Rattle.hb_consol.proofs.SeenStarts.{named_from_start}
+use Rattle.hb_consol.proofs.SeenPairs.{named_from_start}
 use Rattle.hb_consol.proofs.naming.names.Goals as goal
 
 pub loop-leaf-init : goal.loop-leaf-init

@@ -1,4 +1,4 @@
-use Rattle.hb_consol.proofs.SeenStarts.{none_passed, pairs_from_start}
+use Rattle.hb_consol.proofs.SeenPairs.{none_passed, pairs_from_start}
 use Rattle.hb_consol.proofs.naming.pair_in.Goals as goal
 
 pub loop-leaf-init : goal.loop-leaf-init

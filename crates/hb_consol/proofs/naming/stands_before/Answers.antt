@@ -1,4 +1,4 @@
-use Rattle.hb_consol.proofs.SeenStarts.{earlier_from_start}
+use Rattle.hb_consol.proofs.SeenPairs.{earlier_from_start}
 use Rattle.hb_consol.proofs.naming.stands_before.Goals as goal
 
 pub loop-leaf-init : goal.loop-leaf-init
