@@ -8,3 +8,4 @@ pub mod AllowedMerges
 pub mod ChildrenBehind
 pub mod ViewedParents
 pub mod SeenPairs
+pub mod ViewedRows

@@ -4,9 +4,9 @@
 //! The one contract: a step of the consolidator does one of these rows, which are records over what a row
 //! reads: `specs/ConsolidatorRows.antt`. hb_core joins them with the rows of the other actors.
 //!
-//! `next_by_view` tells each row from the bytes of the page that was latched and of those beside it, and takes no memory; `next` tells
-//! each row from pages. `descend` is the first of them for a walk, a promotion and a page that is taken to be kept. They touch nothing
-//! themselves.
+//! `next_by_view` tells the row from the bytes of the page that was latched and of those beside it, and takes
+//! no memory; `next` tells it from pages. `descend` is `next_by_view` for a walk, a promotion and a page to keep,
+//! which read one page. They touch nothing themselves.
 //!
 //! Source of the idea: Evangelidis, Lomet and Salzberg 1997.
 #![tactic(auto)]

@@ -44,7 +44,7 @@ pub(crate) fn pair_in(above: &PageView<'_>, kept: &PageView<'_>, from: u64) -> O
     None
 }
 
-/// The page that a sibling leaf names, where the parent names it too.
+// The page that a sibling leaf names, where the parent names it too.
 fn paired(above: &PageView<'_>, leaf: LeafView) -> Option<u32>
     requires { IsLive above.now }
     ensures { IsLiveAnd above.now (λ over. IsPaired over leaf result) }
@@ -70,7 +70,7 @@ pub(crate) fn child_behind(above: &PageView<'_>, child: u32) -> Option<u32>
     found_by(so_far)
 }
 
-/// The search goes over a name. Once it has found a child, it is over.
+// The search goes over a name. Once it has found a child, it is over.
 fn sought_on(above: &PageView<'_>, child: u32, so_far: Sought, name: u32) -> Sought
     requires { IsLive above.now }
     ensures { IsLiveAnd above.now (λ over. result ≡ sought_on (child_names (leaves over.frag)) child so_far name) }
@@ -94,7 +94,7 @@ fn sought_on(above: &PageView<'_>, child: u32, so_far: Sought, name: u32) -> Sou
     }
 }
 
-/// Whether the parent names a page in front of where it names another first.
+// Whether the parent names a page in front of where it names another first.
 fn stands_before(above: &PageView<'_>, name: u32, other: u32) -> bool
     requires { IsLive above.now }
     ensures { IsLiveAnd above.now (λ over. result ≡ is_first (earlier_of name other (child_names (leaves over.frag)))) }
@@ -110,7 +110,7 @@ fn stands_before(above: &PageView<'_>, name: u32, other: u32) -> bool
     false
 }
 
-/// Which of two names a child leaf has.
+// Which of two names a child leaf has.
 fn earlier_at(leaf: LeafView, name: u32, other: u32) -> Earlier
     ensures { result ≡ earlier_of name other (child_views (leaf ∷ [])) }
 {

@@ -107,11 +107,15 @@ fn next_of_pair(
             keep,
             gone,
         } => match plan_for(above, kept, gone, page, meta) {
-            MergePlan::Merge if 0 < meta.live => merge(job, parent, keep, gone, above, meta),
-            MergePlan::Merge
-            | MergePlan::NotContained
-            | MergePlan::ManyParents
-            | MergePlan::TooHeavy => Next::moves(Activity::ConsolidatorIdle),
+            MergePlan::Merge => {
+                if meta.live == 0 {
+                    return Next::moves(Activity::ConsolidatorIdle);
+                }
+                merge(job, parent, keep, gone, above, meta)
+            }
+            MergePlan::NotContained | MergePlan::ManyParents | MergePlan::TooHeavy => {
+                Next::moves(Activity::ConsolidatorIdle)
+            }
         },
         _ => unreachable!(),
     }
