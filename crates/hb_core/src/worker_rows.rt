@@ -49,7 +49,16 @@ impl<D: Device> Core<D> {
         let above = self.other_view(&state);
         match self.live(id) {
             Some(view) => {
-                hb_poster::next_by_view(self.alloc, self.rule, state, id, &view, above, self.store.meta(), free)
+                hb_poster::next_by_view(
+                    self.alloc,
+                    self.rule,
+                    state,
+                    id,
+                    &view,
+                    above,
+                    self.store.meta(),
+                    free,
+                )
             }
             None => unreachable!(),
         }
