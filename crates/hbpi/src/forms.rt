@@ -192,7 +192,10 @@ impl Form {
     fn may_cut(form: Option<Form>) -> bool
         ensures { result ≡ may_cut form }
     {
-        matches!(form, Some(Form::Run | Form::Drive | Form::Tidy | Form::Work { .. }))
+        matches!(
+            form,
+            Some(Form::Run | Form::Drive | Form::Tidy | Form::Work { .. })
+        )
     }
 }
 

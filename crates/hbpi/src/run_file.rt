@@ -36,7 +36,13 @@ pub(crate) fn run_file<
     ensures { RunsBy rule D.model K.model (Some forms.Run) (S.model source.old) (S.model source.new) sink disk result }
 {
     knows_laws();
-    match start(alloc, rule, Origin::Text { step_lines: false }, source, disk) {
+    match start(
+        alloc,
+        rule,
+        Origin::Text { step_lines: false },
+        source,
+        disk,
+    ) {
         Ok((core, _)) => finish(run(rt, alloc, core, sink, gate)),
         Err((status, disk)) => refused(alloc, status, sink, disk),
     }

@@ -20,8 +20,8 @@ use hb_core::run_laws::runs_go_on;
 use hb_core::{Core, TidyCounts};
 use hb_disk::Disk;
 use hb_outside::{Sink, Source};
-use hb_tidy::{TidyStop, tidy};
 use hb_split::CutRule;
+use hb_tidy::{TidyStop, tidy};
 use std::alloc::Global;
 
 /// Tidies the file of a core that has taken no step, and forces what waits then, so that every image has it.
@@ -67,7 +67,13 @@ pub(crate) fn tidy_file<S: Source, K: Sink, D: Disk>(
 {
     knows_laws();
     operations_are_counted();
-    match start(alloc, rule, Origin::Drawn { state: 0, lines: 0 }, source, disk) {
+    match start(
+        alloc,
+        rule,
+        Origin::Drawn { state: 0, lines: 0 },
+        source,
+        disk,
+    ) {
         Ok((mut core, _records)) => {
             let tidied = tidy_core(alloc, &mut core);
             let status = say_tidied(tidied, &mut sink);

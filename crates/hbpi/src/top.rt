@@ -99,13 +99,7 @@ pub fn top<R: Threads + Wait + Sync, S: Source, K: Sink + Send, D: Disk + Send, 
 }
 
 /// The same under a rule of cutting pages.
-pub fn top_by<
-    R: Threads + Wait + Sync,
-    S: Source,
-    K: Sink + Send,
-    D: Disk + Send,
-    G: Gate + Sync,
->(
+pub fn top_by<R: Threads + Wait + Sync, S: Source, K: Sink + Send, D: Disk + Send, G: Gate + Sync>(
     rt: &R,
     alloc: Global,
     rule: CutRule,
