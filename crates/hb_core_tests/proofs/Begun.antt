@@ -8,7 +8,6 @@ use Rattle.hb_steps.specs.KeptLines.{HasLineBody}
 use Rattle.hb_steps.specs.Machines.{Machine}
 use Rattle.hb_core.specs.Showing.{RunningCore}
 use Rattle.hb_core.specs.Taking.{begun_core}
-use Rattle.hb_split.specs.declared.rules.CutRule.TheVariants.{Least}
 use Rattle.hb_core.specs.Working.{MayStep}
 use Rattle.hb_disk.specs.Model.{DiskModel}
 use Rattle.hb_frag.specs.Grammar.{HasSpelling}
@@ -58,7 +57,7 @@ pub begun_over : (d : DiskModel) (held : StoreHeld) (core : RunningCore) (lines 
 begun_over d held core lines steps script is new stands tied kept one some =
     let none : held.uses ≡ [] = no_frames held new tied in
     let begun : core ≡ begun_core lines steps held.state [] = is ∙ ap (begun_core lines steps held.state) none in
-    let here = begins_over d Least lines steps held.state (record {
+    let here = begins_over d lines steps held.state (record {
       new = new;
       stands = stands;
       rising = script.rising;
@@ -68,7 +67,7 @@ begun_over d held core lines steps script is new stands tied kept one some =
     subst (IsBegunCore d) (sym begun) (record {
       may = (here.m, here.may, here.begun.runs);
       idle = refl;
-      counts = begun_within Least lines steps held.state [];
+      counts = begun_within lines steps held.state [];
       actors = script.actors;
       attributes = one;
       some = some;
