@@ -26,7 +26,8 @@ pub(crate) fn drive_file<S: Source, K: Sink, D: Disk>(
     ensures { RunsBy rule D.model K.model (Some forms.Drive) (S.model source.old) (S.model source.new) sink disk result }
 {
     knows_laws();
-    match start(alloc, rule, Origin::Text { step_lines: true }, source, disk) {
+    let origin = Origin::Text { step_lines: true };
+    match start(alloc, rule, origin, source, disk) {
         Ok((core, _)) => finish(drive(alloc, core, sink)),
         Err((status, disk)) => refused(alloc, status, sink, disk),
     }

@@ -36,13 +36,8 @@ pub(crate) fn run_file<
     ensures { RunsBy rule D.model K.model (Some forms.Run) (S.model source.old) (S.model source.new) sink disk result }
 {
     knows_laws();
-    match start(
-        alloc,
-        rule,
-        Origin::Text { step_lines: false },
-        source,
-        disk,
-    ) {
+    let origin = Origin::Text { step_lines: false };
+    match start(alloc, rule, origin, source, disk) {
         Ok((core, _)) => finish(run(rt, alloc, core, sink, gate)),
         Err((status, disk)) => refused(alloc, status, sink, disk),
     }

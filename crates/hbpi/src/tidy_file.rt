@@ -67,13 +67,8 @@ pub(crate) fn tidy_file<S: Source, K: Sink, D: Disk>(
 {
     knows_laws();
     operations_are_counted();
-    match start(
-        alloc,
-        rule,
-        Origin::Drawn { state: 0, lines: 0 },
-        source,
-        disk,
-    ) {
+    let origin = Origin::Drawn { state: 0, lines: 0 };
+    match start(alloc, rule, origin, source, disk) {
         Ok((mut core, _records)) => {
             let tidied = tidy_core(alloc, &mut core);
             let status = say_tidied(tidied, &mut sink);

@@ -41,13 +41,8 @@ pub(crate) fn work_file<
     ensures { RunsBy rule D.model K.model (Some (forms.Work x n)) (S.model source.old) (S.model source.new) sink disk result }
 {
     knows_laws();
-    match start(
-        alloc,
-        rule,
-        Origin::Drawn { state: x, lines: n },
-        source,
-        disk,
-    ) {
+    let origin = Origin::Drawn { state: x, lines: n };
+    match start(alloc, rule, origin, source, disk) {
         Ok((core, records)) => {
             finish_counting(run(rt, alloc, core, Nowhere, gate), records, sink)
         }
