@@ -26,9 +26,9 @@ class Tree:
             box[axis], node = ((low, value - 1), left) if point[axis] < value else ((value, high), right)
         return (None if node[0] == "records" else node[1]), box
 
-    def search(self, box):
+    def search(self, box, left=lambda rest, area: rest):
         """The steps of a search that nobody keeps waiting, its walks, the leaves of records that it was at, and how many boxes it kept
-        at once."""
+        at once. `left` says what is left of the boxes that wait once a leaf was read."""
         rest, steps, walks, most, leaves = [box], 2, 0, 1, set()
         while rest:
             at = rest.pop()
@@ -39,9 +39,35 @@ class Tree:
                 steps += 1
             walks += 1
             leaves.add((last, tuple(area)))
-            rest += outside(at, area)
+            rest = left(rest, area) + outside(at, area)
             most = max(most, len(rest))
         return steps, walks, len(leaves), most
+
+    def met(self, box):
+        """The pages above the records that a box meets, the leaves in them that name a child and meet it, and how many children these name."""
+        left, above, leaves, children = [self.root], set(), 0, set()
+        while left:
+            number = left.pop()
+            level, area, node = self.pages[number]
+            if level > 0 and number not in above:
+                above.add(number)
+                named = list(leaves_met(node, area, box))
+                leaves += sum(kind == "child" for kind, _ in named)
+                children |= {page for kind, page in named if kind == "child"}
+                left += [page for _, page in named]
+        return len(above), leaves, len(children)
+
+
+def leaves_met(node, area, box):
+    """The leaves that name a page and meet a box, each as its kind and the page."""
+    if node[0] != "cut":
+        yield node
+        return
+    _, axis, value, left, right = node
+    (low, high), (least, greatest) = area[axis], box[axis]
+    for side, part in ((left, (low, value - 1)), (right, (value, high))):
+        if part[0] <= greatest and least <= part[1]:
+            yield from leaves_met(side, area[:axis] + [part] + area[axis + 1:], box)
 
 
 class Reader:

@@ -1,0 +1,111 @@
+"""What searches meet in files that were made by either rule, and in SQLite's R*Tree: no time is taken."""
+import bisect
+import os
+import random
+import sys
+import tempfile
+
+HERE = os.path.dirname(os.path.realpath(__file__))
+sys.path.append(os.path.dirname(HERE))
+from data import KINDS, points
+from filling import RULES, fill
+from pages import Tree, outside
+from rtree import RTree
+
+SEARCHES = 100
+# of spread records with two attributes and three: what a search of such a part of each side meets
+SHARES = (("0.01 %", 0.0001), ("1 %", 0.01), ("10 %", 0.1))
+
+
+# ---- what is asked
+
+def boxes(rng, found, share):
+    """Boxes of this share of each side, around records."""
+    ends = [(min(values), max(values)) for values in zip(*found)]
+    for point in rng.sample(found, SEARCHES):
+        wide = [int(share * (high - low)) for low, high in ends]
+        lows = [max(low, value - rng.randrange(side + 1)) for (low, _), value, side in zip(ends, point, wide)]
+        yield [(low, low + side) for low, side in zip(lows, wide)]
+
+
+def slabs(rng, found, axis):
+    """Slabs around a hundredth of the values of one attribute."""
+    ends, values = [(0, 2 ** 64 - 1)] * len(found[0]), sorted(point[axis] for point in found)
+    for _ in range(SEARCHES):
+        at = rng.randrange(len(values) - len(values) // 100)
+        yield ends[:axis] + [(values[at], values[at + len(values) // 100 - 1])] + ends[axis + 1:]
+
+
+def asked(kind, k, found):
+    """The kinds of searches, each with its boxes."""
+    rng = random.Random(k)
+    shares = SHARES if kind == "spread" else SHARES[1:]
+    for name, share in shares:
+        yield f"box, {name}", list(boxes(rng, found, share))
+    for axis in range(k):
+        yield f"slab {axis + 1}", list(slabs(rng, found, axis))
+
+
+# ---- lists of boxes that wait
+
+def within(box, area):
+    return all(low <= low2 and high2 <= high for (low2, high2), (low, high) in zip(box, area))
+
+
+def forgetting(rest, area):
+    """What a leaf covers is forgotten."""
+    return [box for box in rest if not within(box, area)]
+
+
+def parting(rest, area):
+    """What a leaf covers is cut off."""
+    found = []
+    for box in rest:
+        meets = all(low <= high2 and low2 <= high for (low, high), (low2, high2) in zip(box, area))
+        found += outside(box, area) if meets else [box]
+    return found
+
+
+# ---- tables
+
+def mean(numbers):
+    return sum(numbers) / len(numbers)
+
+
+def told(tree, searches):
+    """Of each search: leaves of records, walks, walks where the list forgets, and where it parts; the pages above met, the leaves in
+    these and the children that they name; and the greatest number of boxes at once, of each list."""
+    plain, forgets, parts = ([tree.search(box, *left) for box in searches] for left in ([], [forgetting], [parting]))
+    above = [tree.met(box) for box in searches]
+    most = [max(it[3] for it in rows) for rows in (plain, forgets, parts)]
+    return [mean([it[2] for it in plain]), *(mean([it[1] for it in rows]) for rows in (plain, forgets, parts)), *(mean(it) for it in zip(*above)), *most]
+
+
+def made(folder, found, k, rule):
+    fill(f"{folder}/file", found, k, rule)
+    tree = Tree(f"{folder}/file")
+    os.remove(f"{folder}/file")
+    return tree
+
+
+def rows(folder, kind, k, count):
+    found = points(kind, k, count)
+    trees, beside = [made(folder, found, k, rule) for rule in RULES], RTree(found, k)
+    sizes = ", ".join(f"{tree.live} pages of height {tree.height}" for tree in trees)
+    print(f"{kind}, {k} attributes: {sizes}; R*Tree {len(beside.nodes)} nodes of height {beside.depth + 1}", file=sys.stderr, flush=True)
+    for name, searches in asked(kind, k, found):
+        numbers = [told(tree, searches) for tree in trees]
+        above, leaves = (mean(it) for it in zip(*(beside.met([(low, min(high, 2 ** 63)) for low, high in box]) for box in searches)))
+        cells = [f"{one:,.1f} / {other:,.1f}" if at < 7 else f"{one} / {other}" for at, (one, other) in enumerate(zip(*numbers))]
+        print("| " + " | ".join([kind, str(k), name, *cells, f"{leaves:,.1f}", f"{above:,.1f}"]) + " |", flush=True)
+
+
+def main(count, kinds):
+    print("Of each pair the first is of a file that was made without `wide`, the second of one with it. All are means of a search but the boxes at once.\n")
+    heads = ("Records", "K", "Search", "leaves met", "walks", "walks, forgetting", "walks, parting", "pages above", "child leaves met", "children met",
+             "boxes at once", "forgetting", "parting", "R*Tree: leaves", "nodes above")
+    print(f"| {' | '.join(heads)} |\n|---|--:|---|{'--:|' * (len(heads) - 3)}")
+    with tempfile.TemporaryDirectory(dir="/dev/shm") as folder:
+        for kind in kinds or KINDS:
+            for k in (2, 3):
+                rows(folder, kind, k, count)
