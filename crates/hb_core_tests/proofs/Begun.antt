@@ -22,6 +22,7 @@ use Rattle.hb_set.proofs.Facts.ScriptLaws.{script_is_short}
 use Rattle.hb_set.specs.Scripts.{IsScriptFor}
 use Rattle.hb_set.specs.declared.scripts.Line.{Line}
 use Rattle.hb_space.specs.Actors.{IsActor}
+use Rattle.hb_split.specs.declared.rules.CutRule.TheVariants.{Least}
 use Rattle.hb_store.proofs.Facts.NoFrames.{no_frames}
 use Rattle.hb_store.proofs.Facts.Grouped.{good_spelled}
 use Rattle.hb_store.specs.Held.{StoreHeld, IsTied}
@@ -57,7 +58,7 @@ pub begun_over : (d : DiskModel) (held : StoreHeld) (core : RunningCore) (lines 
 begun_over d held core lines steps script is new stands tied kept one some =
     let none : held.uses ≡ [] = no_frames held new tied in
     let begun : core ≡ begun_core lines steps held.state [] = is ∙ ap (begun_core lines steps held.state) none in
-    let here = begins_over d lines steps held.state (record {
+    let here = begins_over d Least lines steps held.state (record {
       new = new;
       stands = stands;
       rising = script.rising;
@@ -67,7 +68,7 @@ begun_over d held core lines steps script is new stands tied kept one some =
     subst (IsBegunCore d) (sym begun) (record {
       may = (here.m, here.may, here.begun.runs);
       idle = refl;
-      counts = begun_within lines steps held.state [];
+      counts = begun_within Least lines steps held.state [];
       actors = script.actors;
       attributes = one;
       some = some;

@@ -5,7 +5,7 @@ use Rattle.std.proofs.lemmas.List.Elements.{All-from_recursion, recursion_from_A
 use Rattle.hb_steps.specs.KeptFits.{CommandFits, LineFits}
 use Rattle.hb_steps.specs.Machines.{Machine}
 use Rattle.hb_steps.specs.SteppingLaws.{IsBegun, IsBegunOver}
-use Rattle.hb_core.specs.Taking.{begun_core}
+use Rattle.hb_core.specs.Taking.{begun_core_by}
 use Rattle.hb_core.specs.Working.{MayStep}
 use Rattle.hb_disk.specs.Model.{DiskModel}
 use Rattle.hb_lemmas.proofs.Options.{at_value, has_value, if_value, some_value}
@@ -16,14 +16,15 @@ use Rattle.hb_set.specs.Scripts.{IsLineFor}
 use Rattle.hb_set.specs.declared.commands.Command.{Command}
 use Rattle.hb_set.specs.declared.commands.Command.TheVariants.{Insert, Delete, Lookup, Search}
 use Rattle.hb_set.specs.declared.scripts.Line.{Line}
+use Rattle.hb_split.specs.declared.rules.CutRule.{CutRule}
 use Rattle.hb_store.specs.Keeps.{StoreKeeps}
 use Rattle.hb_store.specs.States.{IsNew, IsStanding, StoreState}
 use Rattle.hb_core.proofs.Facts.BegunCores.{begins_over}
 use Rattle.hbpi.specs.Schedules.{SearchesBox, HasLineBox, IsScript}
 
 -- Such a machine, of a core with this script over a store that was just opened.
-pub record IsBegunHere (d : DiskModel) (lines : List Line) (steps : List ℕ) (store : StoreState) (m : Machine) : Type 0 where
-  pub may : MayStep d (begun_core lines steps store []) m
+pub record IsBegunHere (d : DiskModel) (rule : CutRule) (lines : List Line) (steps : List ℕ) (store : StoreState) (m : Machine) : Type 0 where
+  pub may : MayStep d (begun_core_by rule lines steps store []) m
   pub begun : IsBegun m
   pub told : IfSome d.told (λ b. (s : FileState) × IsBegunOver m s × StoreKeeps d store s [])
 
@@ -41,10 +42,10 @@ each_fits k (l ∷ rest) is boxes = (
 )
 
 -- so of a script that was read
-pub begins_script : (d : DiskModel) (lines : List Line) (steps : List ℕ) (store : StoreState) → IsScript store.meta.k lines steps → IsNew store.turn store.meta store → IsStanding store.turn store.meta
-    → IfSome d.told (λ b. (s : FileState) × IsSound s × StoreKeeps d store s []) → (m : Machine) × IsBegunHere d lines steps store m
-begins_script d lines steps store script new stands kept =
-    let begins = begins_over d lines steps store (record {
+pub begins_script : (d : DiskModel) (rule : CutRule) (lines : List Line) (steps : List ℕ) (store : StoreState) → IsScript store.meta.k lines steps → IsNew store.turn store.meta store → IsStanding store.turn store.meta
+    → IfSome d.told (λ b. (s : FileState) × IsSound s × StoreKeeps d store s []) → (m : Machine) × IsBegunHere d rule lines steps store m
+begins_script d rule lines steps store script new stands kept =
+    let begins = begins_over d rule lines steps store (record {
       new = new;
       stands = stands;
       rising = script.script.rising;

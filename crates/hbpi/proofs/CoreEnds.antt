@@ -14,6 +14,7 @@ use Rattle.hb_restart.proofs.Facts.Beyond.{beyond_none}
 use Rattle.hb_restart.specs.Beyond.{KeepsBeyond, KeepsBeyondFile}
 use Rattle.hb_set.specs.declared.scripts.Answered.{Answered}
 use Rattle.hb_set.specs.declared.scripts.Line.{Line}
+use Rattle.hb_split.specs.declared.rules.CutRule.{CutRule}
 use Rattle.hbpi.proofs.Begins.{IsBegunHere, begins_script}
 use Rattle.hbpi.proofs.Beyond.{beyond_driven}
 use Rattle.hbpi.proofs.Causes.{took_by_cause}
@@ -43,24 +44,24 @@ pub record RanCore {X Y : Type 0} (M : X → DiskModel) (by : Manner) (first : X
   pub hands : HandsOver left.disk last left.answered seen.answered left.core.order seen.order
 
 -- a machine that has taken no step, which a core shows that was made
-pub begins_here : (origin : Origin) (before after : SourceModel) (d e : DiskModel) (core : RunningCore) → (started : IsStarted origin before after d e core) → (m : Machine) × IsBegunHere e started.made.lines started.made.steps started.store m
-begins_here origin before after d e core started =
+pub begins_here : (rule : CutRule) (origin : Origin) (before after : SourceModel) (d e : DiskModel) (core : RunningCore) → (started : IsStarted rule origin before after d e core) → (m : Machine) × IsBegunHere e rule started.made.lines started.made.steps started.store m
+begins_here rule origin before after d e core started =
     let made = started.made in
-    begins_script e made.lines made.steps started.store made.script started.opens.is_new made.stands (kept_of d e started.store started.count started.opens started.through)
+    begins_script e rule made.lines made.steps started.store made.script started.opens.is_new made.stands (kept_of d e started.store started.count started.opens started.through)
 
-pub may_core : (origin : Origin) (before after : SourceModel) (d e : DiskModel) (core : RunningCore) (m : Machine) → (started : IsStarted origin before after d e core) → IsBegunHere e started.made.lines started.made.steps started.store m → MayStep e core m
-may_core origin before after d e core m started here = subst (λ (c : RunningCore). MayStep e c m) (sym started.made.core_is) here.may
+pub may_core : (rule : CutRule) (origin : Origin) (before after : SourceModel) (d e : DiskModel) (core : RunningCore) (m : Machine) → (started : IsStarted rule origin before after d e core) → IsBegunHere e rule started.made.lines started.made.steps started.store m → MayStep e core m
+may_core rule origin before after d e core m started here = subst (λ (c : RunningCore). MayStep e c m) (sym started.made.core_is) here.may
 
-pub may_begin : (origin : Origin) (before after : SourceModel) (d e : DiskModel) (core : RunningCore) → IsStarted origin before after d e core → MayTakeSteps e core
-may_begin origin before after d e core started =
-    let here = begins_here origin before after d e core started in
-    (here.0, may_core origin before after d e core here.0 started here.1)
+pub may_begin : (rule : CutRule) (origin : Origin) (before after : SourceModel) (d e : DiskModel) (core : RunningCore) → IsStarted rule origin before after d e core → MayTakeSteps e core
+may_begin rule origin before after d e core started =
+    let here = begins_here rule origin before after d e core started in
+    (here.0, may_core rule origin before after d e core here.0 started here.1)
 
 -- it isn't stopped
-pub may_begin_running : (origin : Origin) (before after : SourceModel) (d e : DiskModel) (core : RunningCore) → IsStarted origin before after d e core → MayRun e core
-may_begin_running origin before after d e core started =
-    let here = begins_here origin before after d e core started in
-    (here.0, may_core origin before after d e core here.0 started here.1, here.1.begun.runs)
+pub may_begin_running : (rule : CutRule) (origin : Origin) (before after : SourceModel) (d e : DiskModel) (core : RunningCore) → IsStarted rule origin before after d e core → MayRun e core
+may_begin_running rule origin before after d e core started =
+    let here = begins_here rule origin before after d e core started in
+    (here.0, may_core rule origin before after d e core here.0 started here.1, here.1.begun.runs)
 
 -- where memory was refused before the first step
 no_room : (origin : Origin) (k : ℕ) (before after : SourceModel) (lines : List Line) (steps : List ℕ) → after.faults ≡ before.faults → CameFrom origin k before after lines steps → CameNot origin k before after NoMemory
@@ -68,19 +69,19 @@ no_room (Text step_lines) k before after lines steps source came = source
 no_room (Drawn state count) k before after lines steps source came = (refl, came.2)
 
 module _ {X Y : Type 0} (M : X → DiskModel) (by : Manner) (first : X) (core : RunningCore) (left : RunLeft X Y) (last : X) (d : DiskModel) (seen : Seen) (status : Status)
-    (facts : RanCore M by first core left last d seen status) (laws : StartLaws) (started : IsStarted by.origin seen.source_before seen.source_after d (M first) core) where
+    (facts : RanCore M by first core left last d seen status) (laws : StartLaws) (started : IsStarted seen.rule by.origin seen.source_before seen.source_after d (M first) core) where
   ran_here : left.end ≢ ends.NoMemory → StepsEnd by (run_of M seen d (M last)) status
   ran_here some =
       let made = started.made in
       let store = started.store in
-      let here = begins_here by.origin seen.source_before seen.source_after d (M first) core started in
-      let may = may_core by.origin seen.source_before seen.source_after d (M first) core here.0 started here.1 in
+      let here = begins_here seen.rule by.origin seen.source_before seen.source_after d (M first) core started in
+      let may = may_core seen.rule by.origin seen.source_before seen.source_after d (M first) core here.0 started here.1 in
       let went = facts.goes some here.0 may in
       let actors = went.0 in
       let run = went.1 in
       let new = run.new in
       let takes : TakesFrom here.0 (M first) (M left.disk) store.meta.k made.lines actors left.answered left.core.order new =
-      takes_steps (M first) (M left.disk) made.lines made.steps actors store left.core left.answered here.0 laws.beginning laws.begun started.disk started.opens.is_new here.1 run in
+      takes_steps (M first) (M left.disk) seen.rule made.lines made.steps actors store left.core left.answered here.0 laws.beginning laws.begun started.disk started.opens.is_new here.1 run in
       let on_disk = subst (λ (x : X). TakesFrom here.0 (M first) (M x) store.meta.k made.lines actors left.answered left.core.order new) (sym facts.hands.disk_is) takes in
       let with_order = subst (λ (o : List ℕ). TakesFrom here.0 (M first) (M last) store.meta.k made.lines actors left.answered o new) (sym facts.hands.order_is) on_disk in
       let with_answers = subst (λ (a : List Answered). TakesFrom here.0 (M first) (M last) store.meta.k made.lines actors a seen.order new) (sym facts.hands.answered_is) with_order in
@@ -127,8 +128,8 @@ module _ {X Y : Type 0} (M : X → DiskModel) (by : Manner) (first : X) (core : 
   run_keeps = elim (is_unbegun left.end) [
     | inl none ↦ subst (λ (x : X). KeepsBeyond (file_size started.store.meta) (M first) (M x)) (sym (facts.hands.disk_is ∙ (facts.unbegun none).1)) (beyond_none (file_size started.store.meta) (M first) started.disk)
     | inr some ↦
-        let here = begins_here by.origin seen.source_before seen.source_after d (M first) core started in
-        let may = may_core by.origin seen.source_before seen.source_after d (M first) core here.0 started here.1 in
+        let here = begins_here seen.rule by.origin seen.source_before seen.source_after d (M first) core started in
+        let may = may_core seen.rule by.origin seen.source_before seen.source_after d (M first) core here.0 started here.1 in
         let run = (facts.goes some here.0 may).1 in
         subst (λ (x : X). KeepsBeyond (file_size started.store.meta) (M first) (M x)) (sym facts.hands.disk_is) (run_beyond (M first) (M left.disk) started.store here.0 here.1.may.shows.store run.in_file)
   ]

@@ -12,6 +12,7 @@ use Rattle.hb_drive.specs.Driving.{DrivesTo, EndsWith, run_text}
 use Rattle.hb_outside.specs.Calls.{SinkModel, SourceModel}
 use Rattle.hb_outside.proofs.Facts.PutLaws.{Appends-none}
 use Rattle.hb_set.specs.declared.scripts.Answered.{Answered}
+use Rattle.hb_split.specs.declared.rules.CutRule.{CutRule}
 use Rattle.hb_store.specs.declared.stops.StopWhy.TheVariants as stops
 use Rattle.hbpi.proofs.CoreEnds.{RanCore}
 use Rattle.hbpi.proofs.RecordsLeft.{NumbersArePlaces, drawn_in_place, has_records}
@@ -75,10 +76,10 @@ pub record RanCounting {X Y Z : Type 0} (M : X → DiskModel) (S : Z → SinkMod
   pub drives : left.end ≢ ends.NoMemory → (m : Machine) → MayStep (M first) core m → (actors : List ℕ) × (drives : DrivesTo m actors left.answered (M first) (M left.disk) left.core left.end nowhere nowhere) × GoesOnForAll core.steps actors drives.run.new
   pub ended : EndsCounting S (counts_text left.answered (records_left left.core.lines left.answered records)) sink left back
 
-module _ {X Y Z : Type 0} (M : X → DiskModel) (S : Z → SinkModel) (state count : ℕ) (first : X) (core : RunningCore) (records : ℕ) (sink : Z) (left : RunLeft X Y) (back : GivenBack X Z) (d : DiskModel) (before after : SourceModel)
-    (facts : RanCounting M S first core records sink left back) (laws : StartLaws) (started : IsStarted (Drawn state count) before after d (M first) core) (counted : records ≡ started.count) where
+module _ {X Y Z : Type 0} (M : X → DiskModel) (S : Z → SinkModel) (state count : ℕ) (first : X) (core : RunningCore) (records : ℕ) (sink : Z) (left : RunLeft X Y) (back : GivenBack X Z) (d : DiskModel) (rule : CutRule) (before after : SourceModel)
+    (facts : RanCounting M S first core records sink left back) (laws : StartLaws) (started : IsStarted rule (Drawn state count) before after d (M first) core) (counted : records ≡ started.count) where
   abbrev seen : Seen
-  seen = seen_by before after (S sink) (S back.sink) back.answered back.order
+  seen = seen_by rule before after (S sink) (S back.sink) back.answered back.order
 
   abbrev whole : Run
   whole = run_of M seen d (M back.disk)
@@ -95,7 +96,7 @@ module _ {X Y Z : Type 0} (M : X → DiskModel) (S : Z → SinkModel) (state cou
   output m actors may drives drove going =
       let lines = in_place m actors may drives in (
         records_left left.core.lines seen.answered started.count,
-        has_records laws (Drawn state count) seen.source_before seen.source_after d (M first) core started (M back.disk) drove.k drove.lines left.core.lines drove.actors seen.answered seen.order drives.run.new drove.takes lines.0 lines.1 (drove.goes going),
+        has_records laws rule (Drawn state count) seen.source_before seen.source_after d (M first) core started (M back.disk) drove.k drove.lines left.core.lines drove.actors seen.answered seen.order drives.run.new drove.takes lines.0 lines.1 (drove.goes going),
         refl,
       )
 

@@ -152,9 +152,9 @@ module _ (m : Machine) (keeps : MachineKeeps m) (places : NumbersArePlaces m.lin
 left_over : (first count added taken size a t : ℕ) → first ≡ count → added ≡ a → taken ≡ t → first + a ≡ size + t → (count + added) - taken ≡ size
 left_over first count added taken size a t is more less sized = omega (arith, is, more, less, sized)
 
-pub has_records : (laws : StartLaws) (origin : _) (before after : SourceModel) (d e : DiskModel) (core : RunningCore) (started : IsStarted origin before after d e core) (last : DiskModel) (k : ℕ) (lines given : List Line) (actors : List ℕ) (answered : List Answered) (order : List ℕ) (m : Machine)
+pub has_records : (laws : StartLaws) (rule origin : _) (before after : SourceModel) (d e : DiskModel) (core : RunningCore) (started : IsStarted rule origin before after d e core) (last : DiskModel) (k : ℕ) (lines given : List Line) (actors : List ℕ) (answered : List Answered) (order : List ℕ) (m : Machine)
     → TakesSteps d last k lines actors answered order m → m.lines ≡ given → NumbersArePlaces given → HasNothingLeft m → HasRecords d.told m (records_left given answered started.count)
-has_records laws origin before after d e core started last k lines given actors answered order m takes same places left = if_value d.told _ (λ b is.
+has_records laws rule origin before after d e core started last k lines given actors answered order m takes same places left = if_value d.told _ (λ b is.
     let here = at_value d.told _ b is takes.told in
     let s = here.0 in
     let over = here.3 in

@@ -23,6 +23,7 @@ use Rattle.hb_set.specs.Machine.{RecordSet}
 use Rattle.hb_set.specs.Order.{result_of}
 use Rattle.hb_set.specs.declared.scripts.Answered.{Answered}
 use Rattle.hb_set.specs.declared.scripts.Line.{Line}
+use Rattle.hb_split.specs.declared.rules.CutRule.{CutRule}
 use Rattle.hb_store.specs.Opening.{IsEven}
 use Rattle.hb_store.specs.States.{IsNew, StoreState}
 use Rattle.hb_store.specs.declared.stops.StopWhy.{StopWhy}
@@ -69,9 +70,9 @@ leaves_prefixes d e m steps answered c s keeps all tells over run =
 abbrev pub TakesFrom : Machine → DiskModel → DiskModel → ℕ → List Line → List ℕ → List Answered → List ℕ → Machine → Type 0
 TakesFrom m d e k lines actors answered order after = (takes : TakesSteps d e k lines actors answered order after) × (takes.before ≡ m)
 
-pub takes_steps : (d e : DiskModel) (lines : List Line) (steps actors : List ℕ) (store : StoreState) (c : RunningCore) (answered : List Answered) (m : Machine) → BeginningKeepsAll → BegunKeepsAll → IsDisk d → IsNew store.turn store.meta store
-    → IsBegunHere d lines steps store m → (run : HasRun d m actors answered e c) → TakesFrom m d e store.meta.k lines actors answered c.order run.new
-takes_steps d e lines steps actors store c answered m keeps all disk new here run =
+pub takes_steps : (d e : DiskModel) (rule : CutRule) (lines : List Line) (steps actors : List ℕ) (store : StoreState) (c : RunningCore) (answered : List Answered) (m : Machine) → BeginningKeepsAll → BegunKeepsAll → IsDisk d → IsNew store.turn store.meta store
+    → IsBegunHere d rule lines steps store m → (run : HasRun d m actors answered e c) → TakesFrom m d e store.meta.k lines actors answered c.order run.new
+takes_steps d e rule lines steps actors store c answered m keeps all disk new here run =
     let came : run.new.answered ≡ run.came = run.answered ∙ ap (λ (a : List Answered). a ++ run.came) here.begun.unanswered in
     let takes : TakesSteps d e store.meta.k lines actors answered c.order run.new = record {
       before = m;
@@ -93,11 +94,12 @@ takes_steps d e lines steps actors store c answered m keeps all disk new here ru
 
 -- the machine that has taken no step stands over the disk as the opening left it
 pub begins_opened : {X : Type 0} (M : X → DiskModel) (seen : Seen) (d : DiskModel) (first : X) (e : DiskModel) (store : StoreState) (count : ℕ) (lines : List Line) (steps : List ℕ) (m : Machine) → OpensStore d (M first) store count → RunsThrough store.meta.high d (M first)
-    → LeavesOpening ⊥ d (M first) → IsOpening d (M first) → IsBegunHere (M first) lines steps store m → Becomes (ChangesFile m.store) (M first) e → BeginsOpened (run_of M seen d e) m
+    → LeavesOpening ⊥ d (M first) → IsOpening d (M first) → IsBegunHere (M first) seen.rule lines steps store m → Becomes (ChangesFile m.store) (M first) e → BeginsOpened (run_of M seen d e) m
 begins_opened M seen d first e store count lines steps m opens through leaves opening here in_file = record {
   disk = first;
   opened = record { store = store; count = count; attributes = ap (λ (st : StoreState). st.meta.k) (sym here.may.shows.store); opens = opens; through = through; leaves = leaves };
   store = here.may.shows.store;
+  rule = here.may.shows.rule;
   clock = λ tells. (here.may.shows.tells (tells_behind d (M first) opening tells)).clock;
   in_file = in_file;
 }

@@ -8,6 +8,7 @@ use Rattle.hb_disk.specs.Model.{DiskModel}
 use Rattle.hb_drive.specs.Driving.{DrivesTo, EndsWith, run_text}
 use Rattle.hb_outside.specs.Calls.{SinkModel, SourceModel}
 use Rattle.hb_set.specs.declared.scripts.Answered.{Answered}
+use Rattle.hb_split.specs.declared.rules.CutRule.{CutRule}
 use Rattle.hbpi.proofs.CoreEnds.{RanCore}
 use Rattle.hbpi.proofs.StepsTaken.{ran_ends}
 use Rattle.hbpi.specs.Codes.{status_after}
@@ -26,10 +27,10 @@ pub record RanText {X Y : Type 0} (M : X → DiskModel) (S : Y → SinkModel) (g
   pub ended : EndsText S left back
 
 pub text_core : {X Y : Type 0} (M : X → DiskModel) (S : Y → SinkModel) (step_lines : Bool) (goes : List ℕ → List ℕ → Machine → Type 0) (first : X) (sink : Y) (core : RunningCore) (left : RunLeft X Y) (back : GivenBack X Y)
-    → RanText M S goes first sink core left back → (d : DiskModel) (before after : SourceModel)
-    → RanCore M (by_text step_lines goes) first core left back.disk d (seen_by before after (S sink) (S back.sink) back.answered back.order) back.status
-text_core {Y = Y} M S step_lines goes first sink core left back facts d before after =
-    let whole : Run = run_of M (seen_by before after (S sink) (S back.sink) back.answered back.order) d (M back.disk) in
+    → RanText M S goes first sink core left back → (d : DiskModel) (rule : CutRule) (before after : SourceModel)
+    → RanCore M (by_text step_lines goes) first core left back.disk d (seen_by rule before after (S sink) (S back.sink) back.answered back.order) back.status
+text_core {Y = Y} M S step_lines goes first sink core left back facts d rule before after =
+    let whole : Run = run_of M (seen_by rule before after (S sink) (S back.sink) back.answered back.order) d (M back.disk) in
     let ended = facts.ended in
     record {
       unbegun = λ none. let still = facts.unbegun none in (still.0, still.1, still.3, ended.status_is ∙ ap status_after none, subst (λ (y : Y). GetsLine (S y) (S back.sink) (fault_line back.status)) still.2 ended.line);

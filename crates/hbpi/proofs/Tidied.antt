@@ -26,6 +26,7 @@ use Rattle.hb_tidy.specs.Tidying.{HasTidied, KeepsSet}
 use Rattle.hb_tidy.specs.Working.{Event}
 use Rattle.hb_tidy.specs.declared.stops.TidyStop.{TidyStop}
 use Rattle.hb_tidy.specs.declared.stops.TidyStop.TheVariants as tidies
+use Rattle.hb_split.specs.declared.rules.CutRule.{CutRule}
 use Rattle.hbpi.proofs.Begins.{IsBegunHere}
 use Rattle.hbpi.proofs.Opened.{IsOpening, even_store, from_before, late_before, since_start, tells_behind}
 use Rattle.hbpi.proofs.Reopened.{counts_before, no_line_yet, pages_of}
@@ -74,8 +75,8 @@ module _ (s : FileState) (d e : DiskModel) (m new : Machine) (first : Files) (ke
 
 -- ---- behind an opening
 
-module _ (laws : StartLaws) (d first last : DiskModel) (store : StoreState) (lines : List Line) (steps : List ℕ) (ran : RunningCore) (result : Result TidyCounts TidyStop) (opening : IsOpening d first) (new : IsNew store.turn store.meta store)
-    (m : Machine) (here : IsBegunHere first lines steps store m) (went : HasTidied first m last ran) (forced : EndsForced first last m went.new result) where
+module _ (laws : StartLaws) (d first last : DiskModel) (store : StoreState) (rule : CutRule) (lines : List Line) (steps : List ℕ) (ran : RunningCore) (result : Result TidyCounts TidyStop) (opening : IsOpening d first) (new : IsNew store.turn store.meta store)
+    (m : Machine) (here : IsBegunHere first rule lines steps store m) (went : HasTidied first m last ran) (forced : EndsForced first last m went.new result) where
   no_order : went.new.order ≡ []
   no_order = went.order ∙ here.begun.no_order
 

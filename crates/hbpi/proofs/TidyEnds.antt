@@ -11,6 +11,7 @@ use Rattle.hb_outside.specs.Calls.{SinkModel, SourceModel}
 use Rattle.hb_restart.specs.Beyond.{KeepsBeyond, KeepsBeyondFile}
 use Rattle.hb_set.specs.Order.{Entry}
 use Rattle.hb_set.specs.declared.scripts.Answered.{Answered}
+use Rattle.hb_split.specs.declared.rules.CutRule.{CutRule}
 use Rattle.hb_tidy.specs.Tidying.{HasTidied}
 use Rattle.hb_tidy.specs.declared.stops.TidyStop.{TidyStop}
 use Rattle.hbpi.proofs.Begins.{IsBegunHere}
@@ -43,18 +44,18 @@ pub record TidiedCore {X : Type 0} (M : X → DiskModel) (first over last : X) (
   pub order_is : order ≡ ran.order
 
 module _ {X : Type 0} (M : X → DiskModel) (first over last : X) (core ran : RunningCore) (result : Result TidyCounts TidyStop) (sink put : SinkModel) (status : Status) (answered : List Answered) (order : List ℕ)
-    (facts : TidiedCore M first over last core ran result sink put status answered order) (laws : StartLaws) (d : DiskModel) (before after : SourceModel) (started : IsStarted nobody before after d (M first) core) where
+    (facts : TidiedCore M first over last core ran result sink put status answered order) (laws : StartLaws) (d : DiskModel) (rule : CutRule) (before after : SourceModel) (started : IsStarted rule nobody before after d (M first) core) where
   abbrev seen : Seen
-  seen = seen_by before after sink put answered order
+  seen = seen_by rule before after sink put answered order
 
   opening : IsOpening d (M first)
   opening = is_opening d (M first) started.store started.count started.disk started.opens started.through started.leaves
 
-  here : (m : Machine) × IsBegunHere (M first) started.made.lines started.made.steps started.store m
-  here = begins_here nobody before after d (M first) core started
+  here : (m : Machine) × IsBegunHere (M first) rule started.made.lines started.made.steps started.store m
+  here = begins_here rule nobody before after d (M first) core started
 
   went : (t : HasTidied (M first) here.0 (M over) ran) × EndsForced (M first) (M over) here.0 t.new result
-  went = facts.tidies here.0 (may_core nobody before after d (M first) core here.0 started here.1)
+  went = facts.tidies here.0 (may_core rule nobody before after d (M first) core here.0 started here.1)
 
   -- nothing is in the order, since nobody commands
   no_order : order ≡ []
@@ -70,7 +71,7 @@ module _ {X : Type 0} (M : X → DiskModel) (first over last : X) (core ran : Ru
   pub tidied_ends : TidyEnds (run_of M seen d (M last)) status
   tidied_ends =
       let file : TidiesFile (run_of M seen d (M over)) went.0.new result =
-      tidies_file laws d (M first) (M over) started.store started.made.lines started.made.steps ran result opening started.opens.is_new here.0 here.1 went.0 went.1 M seen (started.made.came.0 ∙ no_lines started.store.meta.k) alone
+      tidies_file laws d (M first) (M over) started.store rule started.made.lines started.made.steps ran result opening started.opens.is_new here.0 here.1 went.0 went.1 M seen (started.made.came.0 ∙ no_lines started.store.meta.k) alone
       (begins_opened M seen d first (M over) started.store started.count started.made.lines started.made.steps here.0 started.opens started.through started.leaves opening here.1 went.0.in_file) in
       inr (inr (went.0.new, result, subst (λ (x : X). TidiesFile (run_of M seen d (M x)) went.0.new result) (sym facts.disk_is) file, facts.said))
 

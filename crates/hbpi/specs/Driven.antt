@@ -54,11 +54,12 @@ pub record IsOpened (k : ℕ) (old new : DiskModel) : Type 0 where
   pub leaves : LeavesOpening ⊥ old new
 
 -- A machine begins over the disk as the opening left it: with the store that was opened and, where the disk tells, with the clock of that
--- disk. From there on no byte behind the file became another one.
+-- disk. It cuts pages by the rule of the run. From there on no byte behind the file became another one.
 pub record BeginsOpened (run : Run) (m : Machine) : Type 0 where
   pub disk : run.Disk
   pub opened : IsOpened m.store.meta.k run.before (run.model disk)
   pub store : m.store ≡ opened.store
+  pub rule : m.rule ≡ run.seen.rule
   pub clock : IsSome run.before.told → m.clock ≡ (run.model disk).clock
   pub in_file : Becomes (ChangesFile m.store) (run.model disk) run.after
 

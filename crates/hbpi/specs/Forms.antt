@@ -3,6 +3,8 @@ use Rattle.std.specs.Prelude.{ℕ, Bool, true, false, ◌&&◌, ◌<◌, ◌≤�
 use Rattle.std.specs.Str.{bytes_eq}
 use Rattle.std.specs.Result.{result_ok}
 use Rattle.hb_space.specs.declared.form.TheConstants.{KMAX}
+use Rattle.hb_split.specs.declared.rules.CutRule.{CutRule}
+use Rattle.hb_split.specs.declared.rules.CutRule.TheVariants.{Least, Wide}
 use Rattle.hb_text.specs.Numbers.{number_read}
 use Rattle.hbpi.specs.declared.forms.Form.{Form}
 use Rattle.hbpi.specs.declared.forms.Form.TheVariants.{Create, Dry, Run, Drive, Check, Map, Tidy, Gen, Work}
@@ -91,3 +93,17 @@ is_threaded None = false
 is_threaded (Some Run) = true
 is_threaded (Some (Work x n)) = true
 is_threaded (Some form) = false
+
+-- a form that may cut pages
+abbrev pub may_cut : Option Form → Bool
+may_cut None = false
+may_cut (Some Run) = true
+may_cut (Some Drive) = true
+may_cut (Some Tidy) = true
+may_cut (Some (Work x n)) = true
+may_cut (Some form) = false
+
+-- The rule that words ask for, and the words of the form. `wide` in front of others is a word of no form.
+unfoldable pub asked_of : List (List ℕ) → CutRule × List (List ℕ)
+asked_of [] = (Least, [])
+asked_of (first ∷ words) = if bytes_eq first (codes "wide") && may_cut (form_of words) then (Wide, words) else (Least, first ∷ words)

@@ -6,6 +6,8 @@ use Rattle.hb_outside.specs.Calls.{SinkModel, SourceModel}
 use Rattle.hb_restart.specs.Beyond.{KeepsBeyond, KeepsBeyondFile}
 use Rattle.hb_restart.specs.Layouts.{first_fault, size_of}
 use Rattle.hb_restart.specs.NewFiles.{new_file}
+use Rattle.hb_split.specs.declared.rules.CutRule.{CutRule}
+use Rattle.hb_split.specs.declared.rules.CutRule.TheVariants.{Least}
 use Rattle.hb_store.specs.Opening.{IsEven}
 use Rattle.hbpi.specs.Checked.{CheckEnds}
 use Rattle.hbpi.specs.Driven.{by_counting, by_schedule, by_threads}
@@ -82,7 +84,11 @@ pub record RunsForm {X : Type 0} (M : X → DiskModel) (form : Option Form) (see
   pub ends : IsRunOf form (run_of M seen (M old) (M new)) status
   pub untouched : LeavesDisk form status → new ≡ old
 
--- A run of a form that was given a source, a sink and a disk, and gave back this.
+-- A run of a form that cuts pages by a rule, was given a source, a sink and a disk, and gave back this.
+abbrev pub RunsBy : {X Y : Type 0} → CutRule → (X → DiskModel) → (Y → SinkModel) → Option Form → SourceModel → SourceModel → Y → X → Finished Y X → Type 0
+RunsBy rule disk_seen sink_seen form before after sink disk finished =
+    RunsForm disk_seen form (seen_by rule before after (sink_seen sink) (sink_seen finished.sink) finished.answered.items finished.order.items) disk finished.disk finished.status
+
+-- The same under the rule that holds where none is asked for.
 abbrev pub RunsFromTo : {X Y : Type 0} → (X → DiskModel) → (Y → SinkModel) → Option Form → SourceModel → SourceModel → Y → X → Finished Y X → Type 0
-RunsFromTo disk_seen sink_seen form before after sink disk finished =
-    RunsForm disk_seen form (seen_by before after (sink_seen sink) (sink_seen finished.sink) finished.answered.items finished.order.items) disk finished.disk finished.status
+RunsFromTo disk_seen sink_seen form before after sink disk finished = RunsBy Least disk_seen sink_seen form before after sink disk finished

@@ -4,11 +4,13 @@ use Rattle.hb_disk.specs.Model.{DiskModel}
 use Rattle.hb_outside.specs.Calls.{SourceModel, SinkModel}
 use Rattle.hb_outside.specs.Streams.{Rose}
 use Rattle.hb_set.specs.declared.scripts.Answered.{Answered}
+use Rattle.hb_split.specs.declared.rules.CutRule.{CutRule}
 use Rattle.hbpi.specs.declared.statuses.Status.{Status}
 use Rattle.hbpi.specs.Outcome.{fault_line, GetsLine}
 
--- the source and the sink before and after a run, and what was answered, in which order
+-- the rule by which a run cuts pages, the source and the sink before and after it, and what was answered, in which order
 pub record Seen : Type 0 where
+  pub rule : CutRule
   pub source_before : SourceModel
   pub source_after : SourceModel
   pub sink_before : SinkModel
@@ -16,8 +18,9 @@ pub record Seen : Type 0 where
   pub answered : List Answered
   pub order : List ℕ
 
-abbrev pub seen_by : SourceModel → SourceModel → SinkModel → SinkModel → List Answered → List ℕ → Seen
-seen_by source_before source_after sink_before sink_after answered order = record {
+abbrev pub seen_by : CutRule → SourceModel → SourceModel → SinkModel → SinkModel → List Answered → List ℕ → Seen
+seen_by rule source_before source_after sink_before sink_after answered order = record {
+  rule = rule;
   source_before = source_before;
   source_after = source_after;
   sink_before = sink_before;

@@ -7,7 +7,7 @@ use Rattle.hb_steps.specs.CauseLaws.{FullByCause}
 use Rattle.hb_steps.specs.Laws.{AnswersAreTimed, PointsHaveOnePage}
 use Rattle.hb_steps.specs.MachineLaws.{MachineStaysKept}
 use Rattle.hb_steps.specs.SteppingLaws.{BeginningKeeps, BeginningKeepsAll, StepsGoOn}
-use Rattle.hb_core.specs.Taking.{begun_core}
+use Rattle.hb_core.specs.Taking.{begun_core_by}
 use Rattle.hb_disk.specs.Model.{DiskModel, IsDisk}
 use Rattle.hb_outside.specs.Calls.{SinkModel, SourceModel}
 use Rattle.hb_restart.specs.declared.faults.OpenFault.{OpenFault}
@@ -15,6 +15,7 @@ use Rattle.hb_restart.specs.Leaving.{LeavesOpening, OpensStore, RunsThrough}
 use Rattle.hb_set.specs.declared.scripts.Line.{Line}
 use Rattle.hb_restart.specs.Refusals.{GoodIsNotRefused, IsRefusedOnce}
 use Rattle.hb_sound.specs.Laws.{FullyPostedWalksAreShort, NoPointIsHeldTwice, RecordsStandOnce, RootHasWalks}
+use Rattle.hb_split.specs.declared.rules.CutRule.{CutRule}
 use Rattle.hb_store.specs.Opening.{OpensToOne}
 use Rattle.hb_store.specs.States.{IsNew, IsStanding, StoreState}
 use Rattle.hbpi.specs.Codes.{status_of}
@@ -30,37 +31,37 @@ pub record MayMake (origin : Origin) (store : StoreState) : Type 0 where
   pub few : FitsOrigin origin
   pub is_new : IsNew store.turn store.meta store
 
--- A core was made of a store that was just opened and of a script that came.
-pub record IsMadeCore (origin : Origin) (store : StoreState) (before after : SourceModel) (core : RunningCore) : Type 0 where
+-- A core that cuts pages by a rule was made of a store that was just opened and of a script that came.
+pub record IsMadeCore (rule : CutRule) (origin : Origin) (store : StoreState) (before after : SourceModel) (core : RunningCore) : Type 0 where
   pub lines : List Line
   pub steps : List ℕ
   pub came : CameFrom origin store.meta.k before after lines steps
   pub source : after.faults ≡ before.faults
   pub script : IsScript store.meta.k lines steps
   pub stands : IsStanding store.turn store.meta
-  pub core_is : core ≡ begun_core lines steps store []
+  pub core_is : core ≡ begun_core_by rule lines steps store []
 
 -- The file, of so many records, was opened, and such a core was made over it.
-pub record IsStarted (origin : Origin) (before after : SourceModel) (d e : DiskModel) (core : RunningCore) : Type 0 where
+pub record IsStarted (rule : CutRule) (origin : Origin) (before after : SourceModel) (d e : DiskModel) (core : RunningCore) : Type 0 where
   pub store : StoreState
   pub count : ℕ
   pub disk : IsDisk e
   pub opens : OpensStore d e store count
   pub through : RunsThrough store.meta.high d e
   pub leaves : LeavesOpening ⊥ d e
-  pub made : IsMadeCore origin store before after core
+  pub made : IsMadeCore rule origin store before after core
 
 -- It shows a machine then that may take steps.
-pub record HasStarted (origin : Origin) (before after : SourceModel) (d e : DiskModel) (core : RunningCore) (records : ℕ) : Type 0 where
-  pub started : IsStarted origin before after d e core
+pub record HasStarted (rule : CutRule) (origin : Origin) (before after : SourceModel) (d e : DiskModel) (core : RunningCore) (records : ℕ) : Type 0 where
+  pub started : IsStarted rule origin before after d e core
   pub count_is : records ≡ started.count
   pub may : MayTakeSteps e core
 
 -- Or not: whatever sink the fault line is put into, such a run ends so.
-abbrev pub IsNotStarted : {X : Type 0} → (X → DiskModel) → Origin → SourceModel → SourceModel → DiskModel → DiskModel → Status → Type 0
-IsNotStarted M origin before after d e status = (sink put : SinkModel) → GetsLine sink put (fault_line status) →
-    ((fault : OpenFault) × (status ≡ status_of fault) × IsShutOut (run_of M (seen_by before after sink put [] []) d e) fault)
-    ⊎ IsTurnedAway origin (run_of M (seen_by before after sink put [] []) d e) status
+abbrev pub IsNotStarted : {X : Type 0} → (X → DiskModel) → CutRule → Origin → SourceModel → SourceModel → DiskModel → DiskModel → Status → Type 0
+IsNotStarted M rule origin before after d e status = (sink put : SinkModel) → GetsLine sink put (fault_line status) →
+    ((fault : OpenFault) × (status ≡ status_of fault) × IsShutOut (run_of M (seen_by rule before after sink put [] []) d e) fault)
+    ⊎ IsTurnedAway origin (run_of M (seen_by rule before after sink put [] []) d e) status
 
 -- The laws that a run rests on: what a beginning keeps, and any steps behind it; of one step, that it keeps what every machine does, when it
 -- answers, and that it answers `full` by its cause; that bytes open to one file, are refused in one way, and not where that file is sound; and

@@ -4,15 +4,16 @@ use crate::faults::put_fault;
 use crate::file_disk::FileDisk;
 use crate::files::open_file;
 use crate::finished::Finished;
-use crate::forms::Form;
+use crate::forms::{Form, asked_of};
 use crate::new_files::NewFile;
 use crate::statuses::Status;
-use crate::top::top;
+use crate::top::{top, top_by};
 use crate::trouble::Trouble;
 use hb_disk::{Disk, MemDisk};
 use hb_outside::{ReadSource, Sink, WriteSink};
 use hb_restart::Layout;
 use hb_run::FreeGate;
+use hb_split::CutRule;
 use std::alloc::Global;
 use std::io::{BufWriter, Read, Write};
 use std::sync::Wait;
@@ -80,11 +81,12 @@ fn place_for(words: &[String]) -> Place {
     }
 }
 
-/// The same, for the file of this name: `-`, or none, is for no file.
-fn place_of(call: &Call) -> Place {
-    match &call.file {
-        Some(name) if name.as_str() != "-" => place_for(call.words.as_slice()),
-        _ => Place::Memory,
+/// The same, for the file of this name: `-` is for no file.
+fn place_of(name: &str, words: &[String]) -> Place {
+    if name == "-" {
+        Place::Memory
+    } else {
+        place_for(words)
     }
 }
 
@@ -108,7 +110,7 @@ fn end_output<O: Write + Drop>(mut sink: WriteSink<BufWriter<O>>, status: Status
     status.after_sink_fault()
 }
 
-/// Runs the program over these streams and a disk, which is given back with the status.
+/// Runs the program over these streams and a disk, which is given back with the status. It cuts pages by the rule.
 fn run_over<
     R: Threads + Wait + Sync,
     I: Read + Drop,
@@ -117,6 +119,7 @@ fn run_over<
 >(
     alloc: Global,
     threads: &R,
+    rule: CutRule,
     words: &[String],
     input: I,
     sink: WriteSink<BufWriter<O>>,
@@ -128,7 +131,16 @@ fn run_over<
         sink,
         disk,
         ..
-    } = top(threads, alloc, words, &mut source, sink, disk, &FreeGate);
+    } = top_by(
+        threads,
+        alloc,
+        rule,
+        words,
+        &mut source,
+        sink,
+        disk,
+        &FreeGate,
+    );
     (end_output(sink, status), disk)
 }
 
@@ -161,18 +173,18 @@ const LINE: usize = 64;
 fn run_new<R: Threads + Wait + Sync, I: Read + Drop, O: Write + Drop + Send>(
     rt: &HostRuntime,
     threads: &R,
-    call: &Call,
+    name: &str,
+    words: &[String],
     input: I,
     mut sink: WriteSink<BufWriter<O>>,
     size: u64,
 ) -> io::Result<Ended> {
     let held = WriteSink::new(Vec::with_capacity(rt.alloc(), LINE)?);
-    let (file, disk) = match NewFile::make(rt, call.name(), size) {
+    let (file, disk) = match NewFile::make(rt, name, size) {
         Ok(made) => made,
         Err(trouble) => return Ok(refuse_file(sink, trouble)),
     };
     let mut source = ReadSource::new(input);
-    let words = call.words.as_slice();
     let Finished {
         status,
         sink: held,
@@ -189,7 +201,7 @@ fn run_new<R: Threads + Wait + Sync, I: Read + Drop, O: Write + Drop + Send>(
     );
     match status {
         Status::Done => {
-            if let Err(trouble) = file.name(rt, call.name()) {
+            if let Err(trouble) = file.name(rt, name) {
                 return Ok(refuse_file(sink, trouble));
             }
         }
@@ -209,14 +221,15 @@ fn run_new<R: Threads + Wait + Sync, I: Read + Drop, O: Write + Drop + Send>(
 fn run_there<R: Threads + Wait + Sync, I: Read + Drop, O: Write + Drop + Send>(
     rt: &HostRuntime,
     threads: &R,
-    call: &Call,
+    name: &str,
+    rule: CutRule,
+    words: &[String],
     input: I,
     sink: WriteSink<BufWriter<O>>,
 ) -> Ended {
-    match open_file(rt, call.name()) {
+    match open_file(rt, name) {
         Ok(disk) => {
-            let words = call.words.as_slice();
-            let (status, disk) = run_over(rt.alloc(), threads, words, input, sink, disk);
+            let (status, disk) = run_over(rt.alloc(), threads, rule, words, input, sink, disk);
             Ended {
                 status,
                 told: disk.trouble(),
@@ -228,7 +241,7 @@ fn run_there<R: Threads + Wait + Sync, I: Read + Drop, O: Write + Drop + Send>(
 
 /// Runs the program over the file of the call, with the text from `input` and the output to `output`, and says how it
 /// ended. The second handle is for its threads. The output is buffered, and flushed at the end; but where threads run, each reply is written in the turn that gives it.
-/// A file that can't be had is `DiskFault`.
+/// A file that can't be had is `DiskFault`. The word `wide` is taken off, and pages are cut by the rule that it asks for.
 ///
 /// Errors: where memory is refused for the output's buffer. No file was made or opened then, and nothing was written.
 pub fn run<R: Threads + Wait + Sync, I: Read + Drop, O: Write + Drop + Send>(
@@ -239,17 +252,18 @@ pub fn run<R: Threads + Wait + Sync, I: Read + Drop, O: Write + Drop + Send>(
     output: O,
 ) -> io::Result<Ended> {
     let alloc = rt.alloc();
-    let room = room_for(call.words.as_slice());
+    let name = call.name();
+    let (rule, words) = asked_of(call.words.as_slice());
+    let room = room_for(words);
     let sink = WriteSink::new(BufWriter::with_capacity(alloc, room, output)?);
-    match place_of(call) {
+    match place_of(name, words) {
         Place::Memory => {
             let disk = MemDisk::new(alloc, Vec::new(alloc));
-            let words = call.words.as_slice();
-            let (status, _disk) = run_over(alloc, threads, words, input, sink, disk);
+            let (status, _disk) = run_over(alloc, threads, rule, words, input, sink, disk);
             Ok(Ended { status, told: None })
         }
-        Place::New(size) => run_new(rt, threads, call, input, sink, size),
-        Place::There => Ok(run_there(rt, threads, call, input, sink)),
+        Place::New(size) => run_new(rt, threads, name, words, input, sink, size),
+        Place::There => Ok(run_there(rt, threads, name, rule, words, input, sink)),
     }
 }
 

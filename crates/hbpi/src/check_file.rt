@@ -1,7 +1,8 @@
 //! The command `check`.
 ghost use Rattle.std.specs.Prelude.{Some};
 ghost use Rattle.hb_outside.specs.Calls.{SourceModel};
-ghost use Rattle.hbpi.specs.Runs.{RunsFromTo};
+ghost use Rattle.hb_split.specs.declared.rules.CutRule.{CutRule};
+ghost use Rattle.hbpi.specs.Runs.{RunsBy};
 ghost use Rattle.hbpi.specs.declared.forms.Form.TheVariants as forms;
 
 use crate::dry::refused;
@@ -17,7 +18,7 @@ use std::alloc::Global;
 /// The command `check`: opens the file of the disk, which tests all its rules, and says its height, its pages in use and its
 /// records.
 pub(crate) fn check_file<K: Sink, D: Device>(alloc: Global, mut sink: K, disk: D) -> Finished<K, D>
-    ensures { (source : SourceModel) → RunsFromTo D.model K.model (Some forms.Check) source source sink disk result }
+    ensures { (rule : CutRule) (source : SourceModel) → RunsBy rule D.model K.model (Some forms.Check) source source sink disk result }
 {
     knows_laws();
     match recover(alloc, disk) {

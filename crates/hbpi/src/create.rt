@@ -2,7 +2,8 @@
 ghost use Rattle.std.specs.Prelude.{◌≡◌, ◌≢◌, ℕ, ◌≤◌, ◌<◌, IfOk, IfErr, IsSome, Some, None};
 ghost use Rattle.hb_store.specs.Opening.{IsEven};
 ghost use Rattle.hb_outside.specs.Calls.{SourceModel};
-ghost use Rattle.hbpi.specs.Runs.{RunsFromTo};
+ghost use Rattle.hb_split.specs.declared.rules.CutRule.{CutRule};
+ghost use Rattle.hbpi.specs.Runs.{RunsBy};
 ghost use Rattle.hbpi.specs.declared.forms.Form.TheVariants as forms;
 ghost use Rattle.hb_restart.specs.Layouts.{first_fault, size_of};
 ghost use Rattle.hb_restart.specs.NewFiles.{new_file};
@@ -64,7 +65,7 @@ pub(crate) fn create_file<K: Sink, D: Device>(
     mut sink: K,
     disk: D,
 ) -> Finished<K, D>
-    ensures { (source : SourceModel) → RunsFromTo D.model K.model (Some (forms.Create k pages log dcap icap)) source source sink disk result }
+    ensures { (rule : CutRule) (source : SourceModel) → RunsBy rule D.model K.model (Some (forms.Create k pages log dcap icap)) source source sink disk result }
 {
     match make(alloc, disk, k, pages, log, dcap, icap) {
         Ok(disk) => {

@@ -1,9 +1,10 @@
 //! The command `dry`.
 ghost use Rattle.std.specs.Prelude.{◌≡◌, ℕ, ◌≤◌, length, Some};
 ghost use Rattle.hb_set.specs.Scripts.{IsScriptFor};
+ghost use Rattle.hb_split.specs.declared.rules.CutRule.{CutRule};
 ghost use Rattle.hbpi.specs.DryParts.{EndsBySink, EndsRun, put_status};
 ghost use Rattle.hbpi.specs.Handing.{HandsBack, HandsOver};
-ghost use Rattle.hbpi.specs.Runs.{RunsFromTo};
+ghost use Rattle.hbpi.specs.Runs.{RunsBy};
 ghost use Rattle.hbpi.specs.declared.forms.Form.TheVariants as forms;
 
 use crate::answers::{Answers, answer_lines};
@@ -90,7 +91,7 @@ pub(crate) fn dry<S: Source, K: Sink, D: Device>(
     sink: K,
     disk: D,
 ) -> Finished<K, D>
-    ensures { RunsFromTo D.model K.model (Some (forms.Dry k.number)) (S.model source.old) (S.model source.new) sink disk result }
+    ensures { (rule : CutRule) → RunsBy rule D.model K.model (Some (forms.Dry k.number)) (S.model source.old) (S.model source.new) sink disk result }
 {
     match read_script(alloc, k, false, source) {
         Ok(script) => run_script(alloc, &script, sink, disk),

@@ -1,9 +1,10 @@
 ghost use Rattle.std.specs.Prelude.{◌≡◌, ℕ, ◌<◌, ◌≤◌, true, false, Some, None, IfSome, map, string_bytes};
 ghost use Rattle.hb_space.specs.Points.{IsAttributeCount};
-ghost use Rattle.hbpi.specs.Forms.{number_said, attributes_of, line_count_of, create_of, dry_of, gen_of, work_of, alone, form_from, form_of, is_threaded};
+ghost use Rattle.hbpi.specs.Forms.{number_said, attributes_of, line_count_of, create_of, dry_of, gen_of, work_of, alone, form_from, form_of, is_threaded, may_cut, asked_of};
 ghost use Rattle.hbpi.specs.declared.forms.Form.TheVariants as forms;
 
 use hb_space::form::KMAX;
+use hb_split::CutRule;
 use hb_text::read_number;
 
 /// What the program is asked to do, by its words.
@@ -186,6 +187,30 @@ impl Form {
     {
         matches!(form, Some(Form::Run | Form::Work { .. }))
     }
+
+    /// Whether it may cut pages.
+    fn may_cut(form: Option<Form>) -> bool
+        ensures { result ≡ may_cut form }
+    {
+        matches!(
+            form,
+            Some(Form::Run | Form::Drive | Form::Tidy | Form::Work { .. })
+        )
+    }
+}
+
+/// The rule of cutting pages that the words ask for, and the words of the form.
+#[tactic(auto, unfolding(crate::specs::Forms::asked_of))]
+pub fn asked_of(words: &[String]) -> (CutRule, &[String])
+    ensures rule { result.0 ≡ (asked_of (map string_bytes words.now)).0 }
+    ensures words { map string_bytes result.1.now ≡ (asked_of (map string_bytes words.now)).1 }
+{
+    if let [first, others @ ..] = words {
+        if first.as_str() == "wide" && Form::may_cut(Form::of_words(others)) {
+            return (CutRule::Wide, others);
+        }
+    }
+    (CutRule::Least, words)
 }
 
 impl QuietForm {

@@ -1,7 +1,8 @@
 //! The command `gen`.
 ghost use Rattle.std.specs.Prelude.{◌≤◌, Some};
 ghost use Rattle.hb_outside.specs.Calls.{SourceModel};
-ghost use Rattle.hbpi.specs.Runs.{RunsFromTo};
+ghost use Rattle.hb_split.specs.declared.rules.CutRule.{CutRule};
+ghost use Rattle.hbpi.specs.Runs.{RunsBy};
 ghost use Rattle.hbpi.specs.declared.forms.Form.TheVariants as forms;
 
 use crate::dry::refused;
@@ -24,7 +25,7 @@ pub(crate) fn gen_text<K: Sink, D: Device>(
     disk: D,
 ) -> Finished<K, D>
     requires { n ≤ 1000000 }
-    ensures { (source : SourceModel) → RunsFromTo D.model K.model (Some (forms.Gen x n k.number)) source source sink disk result }
+    ensures { (rule : CutRule) (source : SourceModel) → RunsBy rule D.model K.model (Some (forms.Gen x n k.number)) source source sink disk result }
 {
     match generate(alloc, x, n, k) {
         Ok(text) => {

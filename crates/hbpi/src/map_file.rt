@@ -1,8 +1,9 @@
 //! The command `map`.
 ghost use Rattle.std.specs.Prelude.{◌≡◌, Some};
 ghost use Rattle.hb_outside.specs.Calls.{SourceModel};
+ghost use Rattle.hb_split.specs.declared.rules.CutRule.{CutRule};
 ghost use Rattle.hbpi.specs.Mapped.{map_status};
-ghost use Rattle.hbpi.specs.Runs.{RunsFromTo};
+ghost use Rattle.hbpi.specs.Runs.{RunsBy};
 ghost use Rattle.hbpi.specs.declared.forms.Form.TheVariants as forms;
 
 use crate::dry::refused;
@@ -32,7 +33,7 @@ fn status_of(mapped: &Result<(), MapStop>) -> Status
 /// The command `map`: opens the file of the disk, which tests all its rules, and puts its map. Where that isn't whole, the fault line
 /// stands behind a front of it.
 pub(crate) fn map_file<K: Sink, D: Device>(alloc: Global, mut sink: K, disk: D) -> Finished<K, D>
-    ensures { (source : SourceModel) → RunsFromTo D.model K.model (Some forms.Map) source source sink disk result }
+    ensures { (rule : CutRule) (source : SourceModel) → RunsBy rule D.model K.model (Some forms.Map) source source sink disk result }
 {
     knows_laws();
     match recover(alloc, disk) {

@@ -1,6 +1,6 @@
 //! The command `run`.
 ghost use Rattle.std.specs.Prelude.{Some};
-ghost use Rattle.hbpi.specs.Runs.{RunsFromTo};
+ghost use Rattle.hbpi.specs.Runs.{RunsBy};
 ghost use Rattle.hbpi.specs.declared.forms.Form.TheVariants as forms;
 
 use crate::dry::refused;
@@ -11,6 +11,7 @@ use crate::starting::{knows_laws, start};
 use hb_disk::Disk;
 use hb_outside::{Sink, Source};
 use hb_run::{Gate, run};
+use hb_split::CutRule;
 use std::alloc::Global;
 use std::sync::Wait;
 use std::thread::Threads;
@@ -23,11 +24,20 @@ pub(crate) fn run_file<
     K: Sink + Send,
     D: Disk + Send,
     G: Gate + Sync,
->(rt: &R, alloc: Global, source: &mut S, sink: K, disk: D, gate: &G) -> Finished<K, D>
-    ensures { RunsFromTo D.model K.model (Some forms.Run) (S.model source.old) (S.model source.new) sink disk result }
+>(
+    rt: &R,
+    alloc: Global,
+    rule: CutRule,
+    source: &mut S,
+    sink: K,
+    disk: D,
+    gate: &G,
+) -> Finished<K, D>
+    ensures { RunsBy rule D.model K.model (Some forms.Run) (S.model source.old) (S.model source.new) sink disk result }
 {
     knows_laws();
-    match start(alloc, Origin::Text { step_lines: false }, source, disk) {
+    let origin = Origin::Text { step_lines: false };
+    match start(alloc, rule, origin, source, disk) {
         Ok((core, _)) => finish(run(rt, alloc, core, sink, gate)),
         Err((status, disk)) => refused(alloc, status, sink, disk),
     }

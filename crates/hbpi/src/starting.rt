@@ -23,6 +23,7 @@ use hb_sound::laws::{
     records_stand_once,
 };
 use hb_space::Attributes;
+use hb_split::CutRule;
 use hb_steps::cause_laws::lines_are_refused_by_cause;
 use hb_steps::file_laws::{a_beginning_keeps_all, a_beginning_keeps_what_a_machine_keeps};
 use hb_steps::keeping_laws::{steps_go_on, steps_keep_all};
@@ -136,12 +137,13 @@ fn script_from<S: Source>(
 /// Makes a core of the script over a store that was just opened. Otherwise the disk comes back, with the status.
 fn make_core<S: Source, D: Disk>(
     alloc: Global,
+    rule: CutRule,
     origin: Origin,
     source: &mut S,
     store: Store<D>,
 ) -> Result<Core<D>, (Status, D)>
     requires { MayMake origin (seen_as store) }
-    ensures made { IfOk result (λ core. (core_disk core ≡ disk_of store) × IsMadeCore origin (seen_as store) (S.model source.old) (S.model source.new) (core_seen core)) }
+    ensures made { IfOk result (λ core. (core_disk core ≡ disk_of store) × IsMadeCore rule origin (seen_as store) (S.model source.old) (S.model source.new) (core_seen core)) }
     ensures refused { IfErr result (λ e. (e.1 ≡ disk_of store) × CameNot origin (seen_as store).meta.k (S.model source.old) (S.model source.new) e.0) }
 {
     let k = Attributes {
@@ -150,7 +152,7 @@ fn make_core<S: Source, D: Disk>(
     match script_from(alloc, k, origin, source) {
         Ok(script) => {
             knows_lines(script.lines.as_slice());
-            match Core::over(alloc, store, script) {
+            match Core::over_by(alloc, rule, store, script) {
                 Ok(core) => Ok(core),
                 Err((_, store)) => Err((Status::NoMemory, store.into_disk())),
             }
@@ -159,20 +161,21 @@ fn make_core<S: Source, D: Disk>(
     }
 }
 
-/// Opens the file of the disk, takes the script from where it comes, and makes a core over both, with the number of the file's records.
+/// Opens the file of the disk, takes the script from where it comes, and makes a core over both, which cuts pages by the rule, with the number of the file's records.
 /// Otherwise the disk comes back, with the status that refuses it.
 pub(crate) fn start<S: Source, D: Disk>(
     alloc: Global,
+    rule: CutRule,
     origin: Origin,
     source: &mut S,
     disk: D,
 ) -> Result<(Core<D>, u64), (Status, D)>
     requires few { FitsOrigin origin }
-    ensures has { IfOk result (λ r. HasStarted origin (S.model source.old) (S.model source.new) (D.model disk) (D.model (core_disk r.0)) (core_seen r.0) r.1) }
-    ensures refused { IfErr result (λ e. IsNotStarted D.model origin (S.model source.old) (S.model source.new) (D.model disk) (D.model e.1) e.0) }
+    ensures has { IfOk result (λ r. HasStarted rule origin (S.model source.old) (S.model source.new) (D.model disk) (D.model (core_disk r.0)) (core_seen r.0) r.1) }
+    ensures refused { IfErr result (λ e. IsNotStarted D.model rule origin (S.model source.old) (S.model source.new) (D.model disk) (D.model e.1) e.0) }
 {
     match recover(alloc, disk) {
-        Ok((store, records)) => match make_core(alloc, origin, source, store) {
+        Ok((store, records)) => match make_core(alloc, rule, origin, source, store) {
             Ok(core) => Ok((core, records)),
             Err(refusal) => Err(refusal),
         },

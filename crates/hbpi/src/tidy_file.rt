@@ -4,7 +4,7 @@ ghost use Rattle.hb_core.specs.CoreSeen.{core_disk, core_seen};
 ghost use Rattle.hb_steps.specs.Machines.{Machine};
 ghost use Rattle.hb_core.specs.Working.{MayStep};
 ghost use Rattle.hb_tidy.specs.Tidying.{HasTidied};
-ghost use Rattle.hbpi.specs.Runs.{RunsFromTo};
+ghost use Rattle.hbpi.specs.Runs.{RunsBy};
 ghost use Rattle.hbpi.specs.TidyRuns.{EndsForced, MayTidyFirst, SaysTidied};
 ghost use Rattle.hbpi.specs.declared.forms.Form.TheVariants as forms;
 
@@ -20,6 +20,7 @@ use hb_core::run_laws::runs_go_on;
 use hb_core::{Core, TidyCounts};
 use hb_disk::Disk;
 use hb_outside::{Sink, Source};
+use hb_split::CutRule;
 use hb_tidy::{TidyStop, tidy};
 use std::alloc::Global;
 
@@ -57,15 +58,17 @@ fn say_tidied<K: Sink>(tidied: Result<TidyCounts, TidyStop>, sink: &mut K) -> St
 /// that took.
 pub(crate) fn tidy_file<S: Source, K: Sink, D: Disk>(
     alloc: Global,
+    rule: CutRule,
     source: &mut S,
     mut sink: K,
     disk: D,
 ) -> Finished<K, D>
-    ensures { RunsFromTo D.model K.model (Some forms.Tidy) (S.model source.old) (S.model source.new) sink disk result }
+    ensures { RunsBy rule D.model K.model (Some forms.Tidy) (S.model source.old) (S.model source.new) sink disk result }
 {
     knows_laws();
     operations_are_counted();
-    match start(alloc, Origin::Drawn { state: 0, lines: 0 }, source, disk) {
+    let origin = Origin::Drawn { state: 0, lines: 0 };
+    match start(alloc, rule, origin, source, disk) {
         Ok((mut core, _records)) => {
             let tidied = tidy_core(alloc, &mut core);
             let status = say_tidied(tidied, &mut sink);

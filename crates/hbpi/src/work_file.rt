@@ -1,7 +1,7 @@
 //! The command `work`.
 ghost use Rattle.std.specs.Prelude.{Some};
 ghost use Rattle.hbpi.specs.Forms.{FitsLimits};
-ghost use Rattle.hbpi.specs.Runs.{RunsFromTo};
+ghost use Rattle.hbpi.specs.Runs.{RunsBy};
 ghost use Rattle.hbpi.specs.declared.forms.Form.TheVariants as forms;
 
 use crate::dry::refused;
@@ -13,6 +13,7 @@ use crate::starting::{knows_laws, start};
 use hb_disk::Disk;
 use hb_outside::{Sink, Source};
 use hb_run::{Gate, run};
+use hb_split::CutRule;
 use std::alloc::Global;
 use std::sync::Wait;
 use std::thread::Threads;
@@ -28,6 +29,7 @@ pub(crate) fn work_file<
 >(
     rt: &R,
     alloc: Global,
+    rule: CutRule,
     x: u64,
     n: u32,
     source: &mut S,
@@ -36,10 +38,11 @@ pub(crate) fn work_file<
     gate: &G,
 ) -> Finished<K, D>
     requires { FitsLimits (forms.Work x n) }
-    ensures { RunsFromTo D.model K.model (Some (forms.Work x n)) (S.model source.old) (S.model source.new) sink disk result }
+    ensures { RunsBy rule D.model K.model (Some (forms.Work x n)) (S.model source.old) (S.model source.new) sink disk result }
 {
     knows_laws();
-    match start(alloc, Origin::Drawn { state: x, lines: n }, source, disk) {
+    let origin = Origin::Drawn { state: x, lines: n };
+    match start(alloc, rule, origin, source, disk) {
         Ok((core, records)) => {
             finish_counting(run(rt, alloc, core, Nowhere, gate), records, sink)
         }

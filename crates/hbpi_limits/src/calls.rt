@@ -4,7 +4,7 @@ use crate::missed::Missed;
 use hb_disk::MemDisk;
 use hb_outside::{MemSink, MemSource};
 use hbpi::top::run_without_threads;
-use hbpi::{Finished, QuietForm};
+use hbpi::{CutRule, Finished, QuietForm};
 use std::alloc::{AllocError, Global};
 
 /// A text of commands, and the output that has to come of it.
@@ -64,7 +64,7 @@ pub(crate) fn run_words(
     let Some(asked) = QuietForm::of_words(list.as_slice()) else {
         return Err(Missed::Threaded { call: words });
     };
-    Ok(run_without_threads(alloc, asked, &mut source, sink, disk))
+    Ok(run_without_threads(alloc, CutRule::Least, asked, &mut source, sink, disk))
 }
 
 /// Runs the program over the disk, and compares: the status has to be this one, and the output.

@@ -4,7 +4,7 @@ use hb_disk::MemDisk;
 use hb_outside::{MemSink, MemSource};
 use hb_set::Answered;
 use hbpi::top::run_without_threads;
-use hbpi::{Finished, QuietForm, Status};
+use hbpi::{CutRule, Finished, QuietForm, Status};
 use std::alloc::Global;
 use std::str;
 
@@ -73,7 +73,7 @@ fn run(
     disk: MemDisk,
 ) -> Option<Finished<MemSink, MemDisk>> {
     let asked = QuietForm::of_words(words)?;
-    Some(run_without_threads(alloc, asked, source, sink, disk))
+    Some(run_without_threads(alloc, CutRule::Least, asked, source, sink, disk))
 }
 
 /// Runs the program over this disk. The source fails at the call of number `read`, and the sink at that of number `write`.

@@ -5,8 +5,8 @@ use hb_disk::{Disk, MemDisk, RotDisk};
 use hb_outside::{MemSink, MemSource};
 use hb_run::{FreeGate, Gate, HoldGate};
 use hb_set::Answered;
-use hbpi::top::{quiet, top};
-use hbpi::{Finished, Form};
+use hbpi::top::{quiet, top_by};
+use hbpi::{Finished, Form, asked_of};
 use std::alloc::Global;
 use std::str;
 use std::sync::Wait;
@@ -117,10 +117,11 @@ fn gated<R: Threads + Wait + Sync, D: Disk + Drop + Send, G: Gate + Sync>(
     let list = words_of(alloc, asked.words)?;
     let mut source = source_of(alloc, asked.text, asked.trouble.source)?;
     let sink = sink_of(alloc, asked.trouble.sink)?;
-    if Form::is_threaded(Form::of_words(list.as_slice())) {
-        Some(top(rt, alloc, list.as_slice(), &mut source, sink, disk, gate))
+    let (rule, words) = asked_of(list.as_slice());
+    if Form::is_threaded(Form::of_words(words)) {
+        Some(top_by(rt, alloc, rule, words, &mut source, sink, disk, gate))
     } else {
-        Some(quiet(rt, alloc, list.as_slice(), &mut source, sink, disk))
+        Some(quiet(rt, alloc, rule, words, &mut source, sink, disk))
     }
 }
 

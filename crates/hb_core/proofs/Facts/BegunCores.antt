@@ -119,7 +119,7 @@ begins_telling d rule lines steps store s may tells keeps = record {
 
 -- over any disk
 pub begins_over : (d : DiskModel) (rule : CutRule) (lines : List Line) (steps : List ℕ) (store : StoreState) → MayBegin lines store → (IsSome d.told → (s : FileState) × KeepsSound d store s) → BeginsWith d rule lines steps store
-begins_over d lines steps store may keeps = by d.told refl
+begins_over d rule lines steps store may keeps = by d.told refl
   where
     by : (o : Option (List ℕ)) → d.told ≡ o → BeginsWith d rule lines steps store
     by None is = begins_silent d rule lines steps store may is

@@ -1,6 +1,7 @@
 -- A decider may be asked at a step that has its pages, and what it says is a row of the step.
 use Rattle.hb_core.proofs.Running.Names.{◌≡◌, ◌⊎◌, inl, inr, ℕ, ◌==◌, Bool, true, false, cond, List, length, Option, IfSome, refl, sym, ap, ◌∙◌, subst, same_Some, DiskModel, Area, IsPoint, Record, LivePage, IsActor, Line, Wanted, Activity, Consolidators, Flushers, Posters, Sessions, class_of, Deed, Sight, goal_of, walk_point, ConsolidatorRow, PointRow, WantsBoxes, PosterRow, SearchRow, StoreState, corner_ahead, has_last, wanted_by, class_for, MachineKeeps, IsMerging, AsksPoint, AsksPoster, AsksSearcher, HasPointRow, HasPosterRow, HasSearchRow, WalksToSearch, sight_in, number_of_row, AsksMerger, HasMergerRow, Machine, sight, StandsAs, IsAtHand, Row, RunningCore, IsWorking, HasPages, with_memory}
 use Rattle.hb_activity.specs.declared.activities.Activity.TheVariants as at
+use Rattle.hb_split.specs.declared.rules.CutRule.{CutRule}
 use Rattle.hb_core.proofs.Running.Asked.{HasWanted, alone, has_goal, has_wanted, merger_asks, merger_wants, poster_asks, poster_wants, searcher_asks, session_asks, session_wants}
 use Rattle.hb_core.proofs.Running.LiftedRows.{row_of_search, row_of_walk}
 use Rattle.hb_steps.specs.Rows.{RowAt}
@@ -149,38 +150,38 @@ module _ (d : DiskModel) (c : RunningCore) (m : Machine) (actor : ℕ) (free : O
   OwnRow activity wanted deed = Row activity wanted (with_memory c m) deed
 
   walk_row : (line : Line) (held : Option ℕ) (rest : List Area) (found : List Record) (deed : Deed) → m.activity actor ≡ at.SessionWalk line held rest found → (WantsBoxes line.command → ⊥)
-      → HasPointRow c.store c.rule (at.SessionWalk line held rest found) (number_of_row (at.SessionWalk line held rest found) (wanted_by m actor)) (length m.order) deed → OwnRow (at.SessionWalk line held rest found) (wanted_by m actor) deed
+      → HasPointRow c.store m.rule (at.SessionWalk line held rest found) (number_of_row (at.SessionWalk line held rest found) (wanted_by m actor)) (length m.order) deed → OwnRow (at.SessionWalk line held rest found) (wanted_by m actor) deed
   walk_row line held rest found deed is none row =
       let goal = has_goal line.command rest none in
       let its = has_wanted d c m actor free may has (session_wants m actor may keeps line held rest found goal.0 is goal.1) in
-      let at_page = subst (λ (w : Option Wanted). HasPointRow c.store c.rule (at.SessionWalk line held rest found) (number_of_row (at.SessionWalk line held rest found) w) (length m.order) deed) its.wants row in
+      let at_page = subst (λ (w : Option Wanted). HasPointRow c.store m.rule (at.SessionWalk line held rest found) (number_of_row (at.SessionWalk line held rest found) w) (length m.order) deed) its.wants row in
       let same : at_page.0 ≡ its.page = same_Some at_page.0 its.page (sym at_page.1 ∙ its.hand.live) in
       subst (λ (w : Option Wanted). OwnRow (at.SessionWalk line held rest found) w deed) (sym its.wants) (
         its.page,
         subst (λ (a : Activity). IsAtHand (with_memory c m) a its.wanted its.page) is its.hand,
         row_of_walk (sight (with_memory c m)) line (goal_of line.command rest) rest found its.wanted.page its.page deed
-            (subst (λ (q : LivePage). PointRow (at.SessionWalk line held rest found) (sight_in c.store c.rule (length m.order)) its.wanted.page q deed) same at_page.2),
+            (subst (λ (q : LivePage). PointRow (at.SessionWalk line held rest found) (sight_in c.store m.rule (length m.order)) its.wanted.page q deed) same at_page.2),
       )
 
   search_walk_row : (line : Line) (held : Option ℕ) (rest : List Area) (found : List Record) (deed : Deed) → m.activity actor ≡ at.SessionWalk line held rest found → WantsBoxes line.command
-      → HasSearchRow c.store c.rule (at.SessionWalk line held rest found) (number_of_row (at.SessionWalk line held rest found) (wanted_by m actor)) (length m.order) deed → OwnRow (at.SessionWalk line held rest found) (wanted_by m actor) deed
+      → HasSearchRow c.store m.rule (at.SessionWalk line held rest found) (number_of_row (at.SessionWalk line held rest found) (wanted_by m actor)) (length m.order) deed → OwnRow (at.SessionWalk line held rest found) (wanted_by m actor) deed
   search_walk_row line held rest found deed is wants row =
       let ends = has_last rest (keeps.attributes_fit.box_left actor line held rest found is wants) in
       let its = has_wanted d c m actor free may has (session_wants m actor may keeps line held rest found ends.last.lo is (corner_ahead line.command rest ends wants)) in
-      let at_page = subst (λ (w : Option Wanted). HasSearchRow c.store c.rule (at.SessionWalk line held rest found) (number_of_row (at.SessionWalk line held rest found) w) (length m.order) deed) its.wants row in
+      let at_page = subst (λ (w : Option Wanted). HasSearchRow c.store m.rule (at.SessionWalk line held rest found) (number_of_row (at.SessionWalk line held rest found) w) (length m.order) deed) its.wants row in
       let same : at_page.0 ≡ its.page = same_Some at_page.0 its.page (sym at_page.1 ∙ its.hand.live) in
       subst (λ (w : Option Wanted). OwnRow (at.SessionWalk line held rest found) w deed) (sym its.wants) (
         its.page,
         subst (λ (a : Activity). IsAtHand (with_memory c m) a its.wanted its.page) is its.hand,
         row_of_search (sight (with_memory c m)) line (goal_of line.command rest) rest found its.wanted.page its.page deed wants
-            (subst (λ (q : LivePage). SearchRow (at.SessionWalk line held rest found) (sight_in c.store c.rule (length m.order)) its.wanted.page q deed) same at_page.2),
+            (subst (λ (q : LivePage). SearchRow (at.SessionWalk line held rest found) (sight_in c.store m.rule (length m.order)) its.wanted.page q deed) same at_page.2),
       )
 
-  search_row : (activity : Activity) (deed : Deed) → m.activity actor ≡ activity → WalksToSearch activity → HasSearchRow c.store c.rule activity (number_of_row activity (wanted_by m actor)) (length m.order) deed → OwnRow activity (wanted_by m actor) deed
+  search_row : (activity : Activity) (deed : Deed) → m.activity actor ≡ activity → WalksToSearch activity → HasSearchRow c.store m.rule activity (number_of_row activity (wanted_by m actor)) (length m.order) deed → OwnRow activity (wanted_by m actor) deed
   search_row (at.SessionWalk line held rest found) deed is wants row = search_walk_row line held rest found deed is wants row
   search_row activity deed is wants row = absurd wants
 
-  session_row : (activity : Activity) (deed : Deed) → m.activity actor ≡ activity → class_of activity ≡ Sessions → IsWorking activity → (WalksToSearch activity → ⊥) → HasPointRow c.store c.rule activity (number_of_row activity (wanted_by m actor)) (length m.order) deed → OwnRow activity (wanted_by m actor) deed
+  session_row : (activity : Activity) (deed : Deed) → m.activity actor ≡ activity → class_of activity ≡ Sessions → IsWorking activity → (WalksToSearch activity → ⊥) → HasPointRow c.store m.rule activity (number_of_row activity (wanted_by m actor)) (length m.order) deed → OwnRow activity (wanted_by m actor) deed
   session_row (at.SessionWalk line held rest found) deed is class working none row = walk_row line held rest found deed is none row
   session_row (at.SessionSplit line held) deed is class working none row =
       subst (λ (w : Option Wanted). OwnRow (at.SessionSplit line held) w deed) (sym (alone d c m actor free may has (at.SessionSplit line held) is refl)) row.2
@@ -204,20 +205,21 @@ module _ (d : DiskModel) (c : RunningCore) (m : Machine) (actor : ℕ) (free : O
   at_hand activity its deed is row =
       subst (λ (w : Option Wanted). OwnRow activity w deed) (sym its.wants) (its.page, subst (λ (a : Activity). IsAtHand (with_memory c m) a its.wanted its.page) is its.hand, row)
 
-  poster_row : (activity : Activity) (deed : Deed) → m.activity actor ≡ activity → class_of activity ≡ Posters → IsWorking activity → HasPosterRow c.store c.rule activity (number_of_row activity (wanted_by m actor)) (length m.order) deed → OwnRow activity (wanted_by m actor) deed
+  poster_row : (activity : Activity) (deed : Deed) → m.activity actor ≡ activity → class_of activity ≡ Posters → IsWorking activity → HasPosterRow c.store m.rule activity (number_of_row activity (wanted_by m actor)) (length m.order) deed → OwnRow activity (wanted_by m actor) deed
   poster_row activity deed is class working row =
       let its = has_wanted d c m actor free may has (poster_wants m actor may keeps activity is class working) in
-      let at_page = subst (λ (w : Option Wanted). HasPosterRow c.store c.rule activity (number_of_row activity w) (length m.order) deed) its.wants row in
+      let at_page = subst (λ (w : Option Wanted). HasPosterRow c.store m.rule activity (number_of_row activity w) (length m.order) deed) its.wants row in
       let same : at_page.0 ≡ its.page = same_Some at_page.0 its.page (sym at_page.1 ∙ its.hand.live) in
       at_hand activity its deed is (row_of_poster (sight (with_memory c m)) activity its.wanted.page its.page deed class working
-      (subst (λ (q : LivePage). PosterRow activity (sight_in c.store c.rule (length m.order)) its.wanted.page q deed) same at_page.2))
+      (subst (λ (q : LivePage). PosterRow activity (sight_in c.store m.rule (length m.order)) its.wanted.page q deed) same at_page.2))
 
   pub decided_session : (activity : Activity) (wanted : Option Wanted) (st : StoreState) (deed : Activity → Deed) → StandsAs c actor activity → wanted ≡ wanted_by m actor → st ≡ c.store → (actor == 17) ≡ false → (actor == 18) ≡ false → (WalksToSearch activity → ⊥)
       → HasPointRow st c.rule activity (number_of_row activity wanted) (length m.order) (deed activity) → Row (m.activity actor) (wanted_by m actor) (with_memory c m) (deed (m.activity actor))
   decided_session activity wanted st deed stood wants same off other none row =
       let is = stands activity stood in
       let here = subst (λ (st : StoreState). HasPointRow st c.rule activity (number_of_row activity wanted) (length m.order) (deed activity)) same row in
-      let own = subst (λ (w : Option Wanted). HasPointRow c.store c.rule activity (number_of_row activity w) (length m.order) (deed activity)) wants here in
+      let ruled = subst (λ (rule : CutRule). HasPointRow c.store rule activity (number_of_row activity wanted) (length m.order) (deed activity)) (sym has.shows.rule) here in
+      let own = subst (λ (w : Option Wanted). HasPointRow c.store m.rule activity (number_of_row activity w) (length m.order) (deed activity)) wants ruled in
       subst (λ (a : Activity). OwnRow a (wanted_by m actor) (deed a)) (sym is) (session_row activity (deed activity) is (is_session activity is off other) (works activity is) none own)
 
   pub decided_search : (activity : Activity) (wanted : Option Wanted) (st : StoreState) (deed : Activity → Deed) → StandsAs c actor activity → wanted ≡ wanted_by m actor → st ≡ c.store → WalksToSearch activity
@@ -225,7 +227,8 @@ module _ (d : DiskModel) (c : RunningCore) (m : Machine) (actor : ℕ) (free : O
   decided_search activity wanted st deed stood wants same searches row =
       let is = stands activity stood in
       let here = subst (λ (st : StoreState). HasSearchRow st c.rule activity (number_of_row activity wanted) (length m.order) (deed activity)) same row in
-      let own = subst (λ (w : Option Wanted). HasSearchRow c.store c.rule activity (number_of_row activity w) (length m.order) (deed activity)) wants here in
+      let ruled = subst (λ (rule : CutRule). HasSearchRow c.store rule activity (number_of_row activity wanted) (length m.order) (deed activity)) (sym has.shows.rule) here in
+      let own = subst (λ (w : Option Wanted). HasSearchRow c.store m.rule activity (number_of_row activity w) (length m.order) (deed activity)) wants ruled in
       subst (λ (a : Activity). OwnRow a (wanted_by m actor) (deed a)) (sym is) (search_row activity (deed activity) is searches own)
 
   pub decided_poster : (activity : Activity) (wanted : Option Wanted) (st : StoreState) (deed : Activity → Deed) → StandsAs c actor activity → wanted ≡ wanted_by m actor → st ≡ c.store → actor ≡ 17
@@ -233,21 +236,23 @@ module _ (d : DiskModel) (c : RunningCore) (m : Machine) (actor : ℕ) (free : O
   decided_poster activity wanted st deed stood wants same poster row =
       let is = stands activity stood in
       let here = subst (λ (st : StoreState). HasPosterRow st c.rule activity (number_of_row activity wanted) (length m.order) (deed activity)) same row in
-      let own = subst (λ (w : Option Wanted). HasPosterRow c.store c.rule activity (number_of_row activity w) (length m.order) (deed activity)) wants here in
+      let ruled = subst (λ (rule : CutRule). HasPosterRow c.store rule activity (number_of_row activity wanted) (length m.order) (deed activity)) (sym has.shows.rule) here in
+      let own = subst (λ (w : Option Wanted). HasPosterRow c.store m.rule activity (number_of_row activity w) (length m.order) (deed activity)) wants ruled in
       subst (λ (a : Activity). OwnRow a (wanted_by m actor) (deed a)) (sym is) (poster_row activity (deed activity) is (posts activity is poster) (works activity is) own)
 
-  merger_row : (activity : Activity) (deed : Deed) → m.activity actor ≡ activity → IsMerging activity → HasMergerRow c.store c.rule activity (number_of_row activity (wanted_by m actor)) (length m.order) deed → OwnRow activity (wanted_by m actor) deed
+  merger_row : (activity : Activity) (deed : Deed) → m.activity actor ≡ activity → IsMerging activity → HasMergerRow c.store m.rule activity (number_of_row activity (wanted_by m actor)) (length m.order) deed → OwnRow activity (wanted_by m actor) deed
   merger_row activity deed is merging row =
       let its = has_wanted d c m actor free may has (merger_wants m actor may keeps activity is merging) in
-      let at_page = subst (λ (w : Option Wanted). HasMergerRow c.store c.rule activity (number_of_row activity w) (length m.order) deed) its.wants row in
+      let at_page = subst (λ (w : Option Wanted). HasMergerRow c.store m.rule activity (number_of_row activity w) (length m.order) deed) its.wants row in
       let same : at_page.0 ≡ its.page = same_Some at_page.0 its.page (sym at_page.1 ∙ its.hand.live) in
       at_hand activity its deed is (row_of_merger (sight (with_memory c m)) activity its.wanted.page its.page deed merging
-      (subst (λ (q : LivePage). ConsolidatorRow activity (sight_in c.store c.rule (length m.order)) its.wanted.page q deed) same at_page.2))
+      (subst (λ (q : LivePage). ConsolidatorRow activity (sight_in c.store m.rule (length m.order)) its.wanted.page q deed) same at_page.2))
 
   pub decided_merger : (activity : Activity) (wanted : Option Wanted) (st : StoreState) (deed : Activity → Deed) → StandsAs c actor activity → wanted ≡ wanted_by m actor → st ≡ c.store → actor ≡ 18
       → HasMergerRow st c.rule activity (number_of_row activity wanted) (length m.order) (deed activity) → Row (m.activity actor) (wanted_by m actor) (with_memory c m) (deed (m.activity actor))
   decided_merger activity wanted st deed stood wants same merger row =
       let is = stands activity stood in
       let here = subst (λ (st : StoreState). HasMergerRow st c.rule activity (number_of_row activity wanted) (length m.order) (deed activity)) same row in
-      let own = subst (λ (w : Option Wanted). HasMergerRow c.store c.rule activity (number_of_row activity w) (length m.order) (deed activity)) wants here in
+      let ruled = subst (λ (rule : CutRule). HasMergerRow c.store rule activity (number_of_row activity wanted) (length m.order) (deed activity)) (sym has.shows.rule) here in
+      let own = subst (λ (w : Option Wanted). HasMergerRow c.store m.rule activity (number_of_row activity w) (length m.order) (deed activity)) wants ruled in
       subst (λ (a : Activity). OwnRow a (wanted_by m actor) (deed a)) (sym is) (merger_row activity (deed activity) is (merges activity is merger) own)

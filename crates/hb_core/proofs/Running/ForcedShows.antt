@@ -38,7 +38,7 @@ module _ (d e : DiskModel) (c : RunningCore) (st : StoreState) (uses : List Use)
       → ShowsMachine e (with_held st uses c) (with_uses used (with_disk store files clock m))
   shown_with store used files clock held same same_use tells silent = record {
     lines = shows.lines;
-  rule = shows.rule;
+    rule = shows.rule;
     sessions = shows.sessions;
     turns = λ session behind low high is. let had = shows.turns session behind low high is in record { few = had.few; front = had.front; back = had.back };
     all_actors = shows.all_actors;

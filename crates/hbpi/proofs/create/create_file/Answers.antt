@@ -11,10 +11,10 @@ use Rattle.hbpi.specs.declared.forms.Form.TheVariants.{Create}
 use Rattle.hbpi.proofs.create.create_file.Goals as goal
 
 pub returns-in-Ok : goal.returns-in-Ok
-returns-in-Ok g c source =
+returns-in-Ok g c rule source =
     let M : g.row.D.Denot → DiskModel = g.D.Device.model in
     let form = Some (Create c.args.k c.args.pages c.args.log c.args.dcap c.args.icap) in
-    let seen : Seen = seen_by source source (g.K.Sink.model c.args.sink) (g.K.Sink.model c.say-status.new.sink) c.new.result.items c.new-in-Ok.result.items in
+    let seen : Seen = seen_by rule source source (g.K.Sink.model c.args.sink) (g.K.Sink.model c.say-status.new.sink) c.new.result.items c.new-in-Ok.result.items in
     let run : Run = run_of M seen (M c.args.disk) (M c.in-Ok.disk) in
     let ends : CreateEnds (first_fault c.args.k c.args.pages c.args.log c.args.dcap c.args.icap) (size_of c.args.pages c.args.log) run c.say-status.result = search rules in
     let file : LeavesFile form run c.say-status.result = search rules in
@@ -23,10 +23,10 @@ returns-in-Ok g c source =
     runs_form M form seen c.args.disk c.in-Ok.disk c.say-status.result ends file beyond unmade tt
 
 pub returns-in-Err : goal.returns-in-Err
-returns-in-Err g c source =
+returns-in-Err g c rule source =
     let M : g.row.D.Denot → DiskModel = g.D.Device.model in
     let form = Some (Create c.args.k c.args.pages c.args.log c.args.dcap c.args.icap) in
-    let seen : Seen = seen_by source source (g.K.Sink.model c.args.sink) (g.K.Sink.model c.refused.result.sink) c.refused.result.answered.items c.refused.result.order.items in
+    let seen : Seen = seen_by rule source source (g.K.Sink.model c.args.sink) (g.K.Sink.model c.refused.result.sink) c.refused.result.answered.items c.refused.result.order.items in
     let run : Run = run_of M seen (M c.args.disk) (M c.refused.result.disk) in
     let ends : CreateEnds (first_fault c.args.k c.args.pages c.args.log c.args.dcap c.args.icap) (size_of c.args.pages c.args.log) run c.refused.result.status = search rules in
     let file : LeavesFile form run c.refused.result.status = search rules in

@@ -29,8 +29,8 @@ returns-in-Ok g c =
       later = c.run.ensures.later;
       ended = c.finish.ensures;
     } in
-    let ran = text_core M S false GoesOnForAll _ _ _ _ _ facts (M c.args.disk) before after in
-    let seen = seen_by before after (S c.args.sink) (S c.finish.result.sink) c.finish.result.answered.items c.finish.result.order.items in
+    let ran = text_core M S false GoesOnForAll _ _ _ _ _ facts (M c.args.disk) c.args.rule before after in
+    let seen = seen_by c.args.rule before after (S c.args.sink) (S c.finish.result.sink) c.finish.result.answered.items c.finish.result.order.items in
     let ends = core_ends M by_threads _ _ _ _ _ _ _ ran c.knows_laws.ensures started in
     runs_form M (Some forms.Run) seen c.args.disk c.finish.result.disk c.finish.result.status ends tt (core_beyond M by_threads _ _ _ _ _ _ _ ran c.knows_laws.ensures started) (λ leaves. absurd leaves)
     (keeps_run c.knows_laws.ensures (run_of M seen (M c.args.disk) (M c.finish.result.disk)) c.finish.result.status ends)
@@ -44,7 +44,7 @@ returns-in-Err g c =
     let put = g.K.Sink.model c.refused.result.sink in
     let answered = c.refused.result.answered.items in
     let order = c.refused.result.order.items in
-    let away = turned M c.args.disk c.in-Err.disk c.refused.result.disk before after sink put answered order c.in-Err.status c.refused.result.status c.refused.ensures by_threads c.in-Err.ensures.refused in
-    let seen = seen_by before after sink put answered order in
+    let away = turned M c.args.disk c.in-Err.disk c.refused.result.disk c.args.rule before after sink put answered order c.in-Err.status c.refused.result.status c.refused.ensures by_threads c.in-Err.ensures.refused in
+    let seen = seen_by c.args.rule before after sink put answered order in
     runs_form M (Some forms.Run) seen c.args.disk c.refused.result.disk c.refused.result.status away.0 tt away.1 (λ leaves. absurd leaves)
     (keeps_run c.knows_laws.ensures (run_of M seen (M c.args.disk) (M c.refused.result.disk)) c.refused.result.status away.0)

@@ -22,7 +22,7 @@ returns-in-Ok-make_core-clause-has g c =
     let facts = c.in-Ok.ensures in
     let core = c.in-Ok-make_core.core in
     let made = c.in-Ok-make_core.ensures.made in
-    let started : IsStarted c.args.origin before after (M c.args.disk) (M (core_disk core)) (core_seen core) = record {
+    let started : IsStarted c.args.rule c.args.origin before after (M c.args.disk) (M (core_disk core)) (core_seen core) = record {
       store = store;
       count = c.in-Ok.records;
       disk = g.met.D.Device.is_disk (core_disk core);
@@ -31,7 +31,7 @@ returns-in-Ok-make_core-clause-has g c =
       leaves = subst (λ (x : g.row.D.Denot). LeavesOpening ⊥ (M c.args.disk) (M x)) (sym made.0) facts.leaves;
       made = made.1;
     } in
-    record { started = started; count_is = refl; may = may_begin c.args.origin before after (M c.args.disk) (M (core_disk core)) (core_seen core) started }
+    record { started = started; count_is = refl; may = may_begin c.args.rule c.args.origin before after (M c.args.disk) (M (core_disk core)) (core_seen core) started }
 
 pub returns-in-Err-make_core-clause-refused : goal.returns-in-Err-make_core-clause-refused
 returns-in-Err-make_core-clause-refused g c sink put line =
@@ -51,5 +51,5 @@ pub returns-in-Err-clause-refused : goal.returns-in-Err-clause-refused
 returns-in-Err-clause-refused g c sink put line =
     let facts = c.in-Err.ensures in
     let source = g.S.Source.model c.args.source.now in
-    inl (shut_out g.D.Device.model c.args.disk c.in-Err.disk c.in-Err.disk (seen_by source source sink put [] []) c.in-Err.fault c.from.result c.from.result
+    inl (shut_out g.D.Device.model c.args.disk c.in-Err.disk c.in-Err.disk (seen_by c.args.rule source source sink put [] []) c.in-Err.fault c.from.result c.from.result
     (record { status_is = refl; disk_is = refl; line = line; none_answered = refl; none_ordered = refl }) c.from.ensures (record { rest = refl; faults = refl }) facts.refused facts.unwritten facts.leaves)

@@ -20,7 +20,7 @@ tidy_core-tidied-requires g c =
     let idle : AllAtRest core = search rules in
     let counts : CountsWithin core = search rules in
     let first : core.taken ≡ 0 = search rules in
-    record { fit = record { may = may_begin_running nobody _ _ _ _ _ c.in-Ok.ensures.has.started; idle = idle; counts = counts }; first = first }
+    record { fit = record { may = may_begin_running c.args.rule nobody _ _ _ _ _ c.in-Ok.ensures.has.started; idle = idle; counts = counts }; first = first }
 
 pub returns-in-Ok : goal.returns-in-Ok
 returns-in-Ok g c =
@@ -39,10 +39,10 @@ returns-in-Ok g c =
       none_answered = c.new.ensures.items;
       order_is = c.into_store-store.ensures.order;
     } in
-    let seen = seen_by before after sink put c.new.result.items order in
-    let ends = tidied_ends M _ _ _ _ _ _ _ _ _ _ _ facts c.knows_laws.ensures (M c.args.disk) before after started in
+    let seen = seen_by c.args.rule before after sink put c.new.result.items order in
+    let ends = tidied_ends M _ _ _ _ _ _ _ _ _ _ _ facts c.knows_laws.ensures (M c.args.disk) c.args.rule before after started in
     runs_form M (Some Tidy) seen c.args.disk c.into_disk.result c.say_tidied-status.result ends tt
-    (tidied_beyond M _ _ _ _ _ _ _ _ _ _ _ facts c.knows_laws.ensures (M c.args.disk) before after started) (λ leaves. absurd leaves)
+    (tidied_beyond M _ _ _ _ _ _ _ _ _ _ _ facts c.knows_laws.ensures (M c.args.disk) c.args.rule before after started) (λ leaves. absurd leaves)
     (keeps_tidy c.knows_laws.ensures (run_of M seen (M c.args.disk) (M c.into_disk.result)) c.say_tidied-status.result ends)
 
 pub returns-in-Err : goal.returns-in-Err
@@ -54,7 +54,7 @@ returns-in-Err g c =
     let put = g.K.Sink.model c.refused.result.sink in
     let answered = c.refused.result.answered.items in
     let order = c.refused.result.order.items in
-    let away = turned_tidy M c.args.disk c.in-Err.disk c.refused.result.disk before after sink put answered order c.in-Err.status c.refused.result.status c.refused.ensures c.in-Err.ensures.refused in
-    let seen = seen_by before after sink put answered order in
+    let away = turned_tidy M c.args.disk c.in-Err.disk c.refused.result.disk c.args.rule before after sink put answered order c.in-Err.status c.refused.result.status c.refused.ensures c.in-Err.ensures.refused in
+    let seen = seen_by c.args.rule before after sink put answered order in
     runs_form M (Some Tidy) seen c.args.disk c.refused.result.disk c.refused.result.status away.0 tt away.1 (λ leaves. absurd leaves)
     (keeps_tidy c.knows_laws.ensures (run_of M seen (M c.args.disk) (M c.refused.result.disk)) c.refused.result.status away.0)
