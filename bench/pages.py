@@ -26,10 +26,10 @@ class Tree:
             box[axis], node = ((low, value - 1), left) if point[axis] < value else ((value, high), right)
         return (None if node[0] == "records" else node[1]), box
 
-    def search(self, box, left=lambda rest, area: rest):
+    def search(self, box, left=lambda rest, pieces, read: rest + pieces):
         """The steps of a search that nobody keeps waiting, its walks, the leaves of records that it was at, and how many boxes it kept
-        at once. `left` says what is left of the boxes that wait once a leaf was read."""
-        rest, steps, walks, most, leaves = [box], 2, 0, 1, set()
+        at once. `left` says what waits behind a walk: of the boxes that waited, the pieces outside of the leaf, and the leaves that were read."""
+        rest, steps, walks, most, leaves, read = [box], 2, 0, 1, set(), []
         while rest:
             at = rest.pop()
             corner, number = [low for low, _ in at], self.root
@@ -39,7 +39,8 @@ class Tree:
                 steps += 1
             walks += 1
             leaves.add((last, tuple(area)))
-            rest = left(rest, area) + outside(at, area)
+            read.append(area)
+            rest = left(rest, outside(at, area), read)
             most = max(most, len(rest))
         return steps, walks, len(leaves), most
 

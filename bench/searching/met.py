@@ -52,18 +52,18 @@ def within(box, area):
     return all(low <= low2 and high2 <= high for (low2, high2), (low, high) in zip(box, area))
 
 
-def forgetting(rest, area):
-    """What a leaf covers is forgotten."""
-    return [box for box in rest if not within(box, area)]
+def forgetting(rest, pieces, read):
+    """What a leaf covers that was read is forgotten."""
+    return [box for box in rest if not within(box, read[-1])] + [box for box in pieces if not any(within(box, area) for area in read)]
 
 
-def parting(rest, area):
-    """What a leaf covers is cut off."""
+def parting(rest, pieces, read):
+    """What a leaf covers is cut off from each box that waits."""
     found = []
     for box in rest:
-        meets = all(low <= high2 and low2 <= high for (low, high), (low2, high2) in zip(box, area))
-        found += outside(box, area) if meets else [box]
-    return found
+        meets = all(low <= high2 and low2 <= high for (low, high), (low2, high2) in zip(box, read[-1]))
+        found += outside(box, read[-1]) if meets else [box]
+    return found + pieces
 
 
 # ---- tables
