@@ -26,21 +26,26 @@ class Tree:
             box[axis], node = ((low, value - 1), left) if point[axis] < value else ((value, high), right)
         return (None if node[0] == "records" else node[1]), box
 
-    def search(self, box, left=lambda rest, pieces, read: rest + pieces):
+    def search(self, box, forgets=False, parts=False):
         """The steps of a search that nobody keeps waiting, its walks, the leaves of records that it was at, and how many boxes it kept
-        at once. `left` says what waits behind a walk: of the boxes that waited, the pieces outside of the leaf, and the leaves that were read."""
-        rest, steps, walks, most, leaves, read = [box], 2, 0, 1, set(), []
+        at once. One that `forgets` makes no walk for a box that is covered by a leaf which was read; one that `parts` cuts each leaf off
+        from all boxes that wait."""
+        rest, steps, walks, most, leaves = [box], 2, 0, 1, set()
         while rest:
             at = rest.pop()
-            corner, number = [low for low, _ in at], self.root
+            corner, number, walk = [low for low, _ in at], self.root, 0
             while number is not None:
                 last = number
                 number, area = self.leaf(last, corner)
-                steps += 1
-            walks += 1
-            leaves.add((last, tuple(area)))
-            read.append(area)
-            rest = left(rest, outside(at, area), read)
+                walk += 1
+            leaf = last, tuple(area)
+            if forgets and leaf in leaves and not outside(at, area):
+                continue
+            steps, walks = steps + walk, walks + 1
+            leaves.add(leaf)
+            if parts:
+                rest = [piece for waits in rest for piece in (outside(waits, area) if meets(waits, area) else [waits])]
+            rest += outside(at, area)
             most = max(most, len(rest))
         return steps, walks, len(leaves), most
 
@@ -57,6 +62,10 @@ class Tree:
                 children |= {page for kind, page in named if kind == "child"}
                 left += [page for _, page in named]
         return len(above), leaves, len(children)
+
+
+def meets(box, other):
+    return all(low <= high2 and low2 <= high for (low, high), (low2, high2) in zip(box, other))
 
 
 def leaves_met(node, area, box):

@@ -1,5 +1,4 @@
 """What searches meet in files that were made by either rule, and in SQLite's R*Tree: no time is taken."""
-import bisect
 import os
 import random
 import sys
@@ -9,10 +8,10 @@ HERE = os.path.dirname(os.path.realpath(__file__))
 sys.path.append(os.path.dirname(HERE))
 from data import KINDS, points
 from filling import RULES, fill
-from pages import Tree, outside
+from pages import Tree
 from rtree import RTree
 
-SEARCHES = 100
+BOXES, SLABS = 100, 20
 # of spread records with two attributes and three: what a search of such a part of each side meets
 SHARES = (("0.01 %", 0.0001), ("1 %", 0.01), ("10 %", 0.1))
 
@@ -22,7 +21,7 @@ SHARES = (("0.01 %", 0.0001), ("1 %", 0.01), ("10 %", 0.1))
 def boxes(rng, found, share):
     """Boxes of this share of each side, around records."""
     ends = [(min(values), max(values)) for values in zip(*found)]
-    for point in rng.sample(found, SEARCHES):
+    for point in rng.sample(found, BOXES):
         wide = [int(share * (high - low)) for low, high in ends]
         lows = [max(low, value - rng.randrange(side + 1)) for (low, _), value, side in zip(ends, point, wide)]
         yield [(low, low + side) for low, side in zip(lows, wide)]
@@ -31,7 +30,7 @@ def boxes(rng, found, share):
 def slabs(rng, found, axis):
     """Slabs around a hundredth of the values of one attribute."""
     ends, values = [(0, 2 ** 64 - 1)] * len(found[0]), sorted(point[axis] for point in found)
-    for _ in range(SEARCHES):
+    for _ in range(SLABS):
         at = rng.randrange(len(values) - len(values) // 100)
         yield ends[:axis] + [(values[at], values[at + len(values) // 100 - 1])] + ends[axis + 1:]
 
@@ -46,26 +45,6 @@ def asked(kind, k, found):
         yield f"slab {axis + 1}", list(slabs(rng, found, axis))
 
 
-# ---- lists of boxes that wait
-
-def within(box, area):
-    return all(low <= low2 and high2 <= high for (low2, high2), (low, high) in zip(box, area))
-
-
-def forgetting(rest, pieces, read):
-    """What a leaf covers that was read is forgotten."""
-    return [box for box in rest if not within(box, read[-1])] + [box for box in pieces if not any(within(box, area) for area in read)]
-
-
-def parting(rest, pieces, read):
-    """What a leaf covers is cut off from each box that waits."""
-    found = []
-    for box in rest:
-        meets = all(low <= high2 and low2 <= high for (low, high), (low2, high2) in zip(box, read[-1]))
-        found += outside(box, read[-1]) if meets else [box]
-    return found + pieces
-
-
 # ---- tables
 
 def mean(numbers):
@@ -73,12 +52,13 @@ def mean(numbers):
 
 
 def told(tree, searches):
-    """Of each search: leaves of records, walks, walks where the list forgets, and where it parts; the pages above met, the leaves in
-    these and the children that they name; and the greatest number of boxes at once, of each list."""
-    plain, forgets, parts = ([tree.search(box, *left) for box in searches] for left in ([], [forgetting], [parting]))
+    """Of each search: leaves of records, walks, walks where it forgets; the pages above met, the leaves in these that name a child, and
+    these children; and the greatest number of boxes at once, and where it parts."""
+    plain, forgets, parts = ([tree.search(box, **how) for box in searches] for how in ({}, {"forgets": True}, {"parts": True}))
+    assert all(walks == leaves for _, walks, leaves, _ in parts)
     above = [tree.met(box) for box in searches]
-    most = [max(it[3] for it in rows) for rows in (plain, forgets, parts)]
-    return [mean([it[2] for it in plain]), *(mean([it[1] for it in rows]) for rows in (plain, forgets, parts)), *(mean(it) for it in zip(*above)), *most]
+    most = [max(it[3] for it in rows) for rows in (plain, parts)]
+    return [mean([it[2] for it in plain]), *(mean([it[1] for it in rows]) for rows in (plain, forgets)), *(mean(it) for it in zip(*above)), *most]
 
 
 def made(folder, found, k, rule):
@@ -96,14 +76,14 @@ def rows(folder, kind, k, count):
     for name, searches in asked(kind, k, found):
         numbers = [told(tree, searches) for tree in trees]
         above, leaves = (mean(it) for it in zip(*(beside.met([(low, min(high, 2 ** 63)) for low, high in box]) for box in searches)))
-        cells = [f"{one:,.1f} / {other:,.1f}" if at < 7 else f"{one} / {other}" for at, (one, other) in enumerate(zip(*numbers))]
+        cells = [f"{one:,.1f} / {other:,.1f}" if at < 6 else f"{one} / {other}" for at, (one, other) in enumerate(zip(*numbers))]
         print("| " + " | ".join([kind, str(k), name, *cells, f"{leaves:,.1f}", f"{above:,.1f}"]) + " |", flush=True)
 
 
 def main(count, kinds):
     print("Of each pair the first is of a file that was made without `wide`, the second of one with it. All are means of a search but the boxes at once.\n")
-    heads = ("Records", "K", "Search", "leaves met", "walks", "walks, forgetting", "walks, parting", "pages above", "child leaves met", "children met",
-             "boxes at once", "forgetting", "parting", "R*Tree: leaves", "nodes above")
+    heads = ("Records", "K", "Search", "leaves met", "walks", "walks, forgetting", "pages above", "child leaves met", "children met",
+             "boxes at once", "parting", "R*Tree: leaves", "nodes above")
     print(f"| {' | '.join(heads)} |\n|---|--:|---|{'--:|' * (len(heads) - 3)}")
     with tempfile.TemporaryDirectory(dir="/dev/shm") as folder:
         for kind in kinds or KINDS:
