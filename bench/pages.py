@@ -26,22 +26,58 @@ class Tree:
             box[axis], node = ((low, value - 1), left) if point[axis] < value else ((value, high), right)
         return (None if node[0] == "records" else node[1]), box
 
-    def search(self, box):
+    def search(self, box, forgets=False, parts=False):
         """The steps of a search that nobody keeps waiting, its walks, the leaves of records that it was at, and how many boxes it kept
-        at once."""
+        at once. One that `forgets` makes no walk for a box that is covered by a leaf which was read; one that `parts` cuts each leaf off
+        from all boxes that wait."""
         rest, steps, walks, most, leaves = [box], 2, 0, 1, set()
         while rest:
             at = rest.pop()
-            corner, number = [low for low, _ in at], self.root
+            corner, number, walk = [low for low, _ in at], self.root, 0
             while number is not None:
                 last = number
                 number, area = self.leaf(last, corner)
-                steps += 1
-            walks += 1
-            leaves.add((last, tuple(area)))
+                walk += 1
+            leaf = last, tuple(area)
+            if forgets and leaf in leaves and not outside(at, area):
+                continue
+            steps, walks = steps + walk, walks + 1
+            leaves.add(leaf)
+            if parts:
+                rest = [piece for waits in rest for piece in (outside(waits, area) if meets(waits, area) else [waits])]
             rest += outside(at, area)
             most = max(most, len(rest))
         return steps, walks, len(leaves), most
+
+    def met(self, box):
+        """The pages above the records that a box meets, the leaves in them that name a child and meet it, and how many children these name."""
+        left, above, leaves, children = [self.root], set(), 0, set()
+        while left:
+            number = left.pop()
+            level, area, node = self.pages[number]
+            if level > 0 and number not in above:
+                above.add(number)
+                named = list(leaves_met(node, area, box))
+                leaves += sum(kind == "child" for kind, _ in named)
+                children |= {page for kind, page in named if kind == "child"}
+                left += [page for _, page in named]
+        return len(above), leaves, len(children)
+
+
+def meets(box, other):
+    return all(low <= high2 and low2 <= high for (low, high), (low2, high2) in zip(box, other))
+
+
+def leaves_met(node, area, box):
+    """The leaves that name a page and meet a box, each as its kind and the page."""
+    if node[0] != "cut":
+        yield node
+        return
+    _, axis, value, left, right = node
+    (low, high), (least, greatest) = area[axis], box[axis]
+    for side, part in ((left, (low, value - 1)), (right, (value, high))):
+        if part[0] <= greatest and least <= part[1]:
+            yield from leaves_met(side, area[:axis] + [part] + area[axis + 1:], box)
 
 
 class Reader:

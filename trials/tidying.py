@@ -1,7 +1,7 @@
 #!/usr/bin/env python3
 """Tidies random files, and looks at what is left by their bytes.
 
-    HBPI=PROGRAM trials/tidying.py COUNT [SEED]
+    HBPI=PROGRAM trials/tidying.py COUNT [SEED [RULE]]
     HBPI=PROGRAM trials/tidying.py killed COUNT [SEED]
 
 The first form makes COUNT random files by `work`, `run` and `drive`, and files of several levels, and tidies each twice. By the bytes
@@ -11,6 +11,8 @@ to be answered `full`, and to keep its records; and only where each page is in u
 
 The second one kills the process, by strace, at each write and each sync of the `tidy` of COUNT files. What is left has to open with the
 same records, and a second `tidy` has to leave it tidy.
+
+With RULE `wide` the word stands in front of what may cut pages, with `turns` now and then, so that a file is worked by either rule.
 """
 import os
 import re
@@ -21,7 +23,7 @@ import tempfile
 
 HERE = os.path.dirname(os.path.abspath(__file__))
 sys.path.insert(0, os.path.join(HERE, "maps"))
-from grown import call, contents, grow, layout, read, seeded
+from grown import call, contents, grow, layout, read, ruled, seeded
 from mapped import Bad, check_text, file_of, is_settled, map_text, mergeable, wants_page
 from mapping import MEMORY, NOT_BUILT, lines_of
 
@@ -57,10 +59,10 @@ def kept(program, name, k, records):
     return found + ([] if contents(program, name, k) == records else ["the records"])
 
 
-def tidy(program, name, k):
+def tidy(program, name, k, rng, rule):
     """Tidies a file twice. What differs, what it told the first time, and its status."""
     records, before = contents(program, name, k), file_of(read(name))
-    said, status = call(program, name, "tidy")
+    said, status = call(program, name, *ruled(rng, rule), "tidy")
     after, told = file_of(read(name)), TOLD.fullmatch(said)
     found = kept(program, name, k, records)
     if status == FULL and said == "full\n":
@@ -69,7 +71,7 @@ def tidy(program, name, k):
     if status or not told:
         return found + [f"{said!r} ({status})"], told, status
     found += untidy(after) + difference(told, before, after)
-    if call(program, name, "tidy") != (NOTHING, 0) or map_text(file_of(read(name))) != map_text(after):
+    if call(program, name, *ruled(rng, rule), "tidy") != (NOTHING, 0) or map_text(file_of(read(name))) != map_text(after):
         found.append("the second time something was done")
     return found, told, status
 
@@ -104,29 +106,30 @@ def rows(program, folder):
 
 # ---- random files
 
-def high_files(program, folder):
+def high_files(program, folder, rule):
     """Files of several levels: each page of records holds six, an index page 32, and nothing was posted, or all of it in a row."""
     for number, (k, count, worker) in enumerate(((1, 3000, ""), (2, 3000, ""), (3, 1500, ""), (2, 3000, " px3"), (4, 2000, " px2"))):
         rng, name = seeded("high", number), f"{folder}/file"
         text = "".join(f"1 insert {' '.join(str(rng.randrange(2 ** 20)) for _ in range(k))} =\n" for _ in range(count))
         call(program, name, "create", k, 4000, 65536, 6, 32)
-        said, status = call(program, name, "drive", text=text + f"step 1x20{worker}\n" * (count * (2 if worker else 20)))
+        said, status = call(program, name, *ruled(rng, rule), "drive", text=text + f"step 1x20{worker}\n" * (count * (2 if worker else 20)))
         yield f"high file {number}", k, name, [] if status == 0 and "unfinished" not in said else [f"the drive ended with {status}"]
 
 
-def random_files(program, folder, count, seed):
+def random_files(program, folder, count, seed, rule="least"):
     for number in range(count):
         rng, name = seeded(seed, number), f"{folder}/file"
         made = layout(rng)
-        yield f"file {number} of seed {seed} ({grow(rng, program, name, made)})", made[0], name, []
+        yield f"file {number} of seed {seed} ({grow(rng, program, name, made, rule)})", made[0], name, []
 
 
-def compare(program, files):
+def compare(program, files, rule):
     """How many of these differ, and what was done in all of them."""
+    rng = seeded(rule, "tidy")
     wrong, full, heights, sums = 0, 0, {}, [0, 0, 0, 0]
     for what, k, name, found in files:
         try:
-            more, told, status = tidy(program, name, k)
+            more, told, status = tidy(program, name, k, rng, rule)
             found = found + more
             height = file_of(read(name)).meta["height"]
             heights[height] = heights.get(height, 0) + 1
@@ -197,14 +200,15 @@ def is_built(program, folder):
 def main():
     program, words = os.path.realpath(os.environ["HBPI"]), sys.argv[1:]
     killed = words[0] == "killed"
-    count, seed = (words[killed:] + ["1"])[:2]
+    count, seed, rule = words[killed:] + ["1", "least"][len(words) - killed - 1:]
     with tempfile.TemporaryDirectory(dir=MEMORY) as folder:
         if not is_built(program, folder):
             print("`tidy` isn't built")
             return 0
         if killed:
             return bool(kill(program, folder, int(count), seed))
-        return bool(rows(program, folder) + compare(program, high_files(program, folder)) + compare(program, random_files(program, folder, int(count), seed)))
+        high, some = high_files(program, folder, rule), random_files(program, folder, int(count), seed, rule)
+        return bool(rows(program, folder) + compare(program, high, rule) + compare(program, some, rule))
 
 
 if __name__ == "__main__":

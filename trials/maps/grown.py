@@ -14,6 +14,11 @@ def call(program, file, *words, text=""):
     return done.stdout.decode(), done.returncode
 
 
+def ruled(rng, rule):
+    """The word in front of those of a call that may cut pages: with `turns` each other one has it."""
+    return ["wide"] if rule == "wide" or rule == "turns" and rng.random() < 0.5 else []
+
+
 def read(file):
     with open(file, "rb") as it:
         return it.read()
@@ -98,8 +103,8 @@ def layout(rng):
     return rng.randint(1, 4), rng.choice((3, 20, 64, 300, 300)), rng.choice((65536, 65536, 300000)), rng.choice((6, 6, 7, 12, 48)), rng.choice((32, 32, 33, 60, 256))
 
 
-def grow(rng, program, file, made):
-    """Makes the file and works on it up to four times. Gives what was done, for a report."""
+def grow(rng, program, file, made, rule="least"):
+    """Makes the file and works on it up to four times, by a rule of cutting pages. Gives what was done, for a report."""
     said, done, known = call(program, file, "create", *made), [f"create {' '.join(map(str, made))}"], []
     if said != ("created\n", 0):
         sys.exit(f"{done}: {said}")
@@ -107,6 +112,7 @@ def grow(rng, program, file, made):
         count = rng.choice((5, 40, 150, 400))
         words = ("work", rng.randrange(2 ** 64), count) if form == "work" else (form,)
         given = "" if form == "work" else text(rng, made[0], count, form == "drive", known)
+        words = (*ruled(rng, rule), *words)
         _, status = call(program, file, *words, text=given)
         done.append(" ".join(map(str, words)))
         if status:

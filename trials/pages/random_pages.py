@@ -56,12 +56,14 @@ def choose_case(rng):
     n = weight(page[2])
     if n < 6 or n > (48 if page[0] == 0 else 256):
         return None
-    path, made, part = model.choose(page)
+    wide = rng.random() < 0.5
+    path, made, part = chosen = model.choose(page, wide)
     assert n < 3 * part and 3 * part <= 2 * n and len(made) <= 4
     GREATEST[0] = max(GREATEST[0], part / n, 1 - part / n)
     text = path + "".join(f" {a}:{v}{s}" for a, v, s in made)
     spelled = sized(page)
-    return spelled and (b"c" + spelled, text, f"{len(made)} cuts")
+    name = f"{'wide' if wide else 'least'}, {len(made)} cuts{'' if chosen == model.choose(page, not wide) else ', and others by the other rule'}"
+    return spelled and (b"c" + bytes([wide]) + spelled, text, name)
 
 
 def area_bytes(box):

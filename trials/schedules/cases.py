@@ -4,11 +4,12 @@ import itertools
 import random
 import struct
 
-from machine import WIDE
-
 
 class Case:
     """A file and its runs: of each the lines, the schedule, and what is wanted of it."""
+
+    # whether the runs cut by the rule `wide`, each so in turn: the first one of every other file begins with the second
+    rules = (False,)
 
     def __init__(self, seed, k, pages, log, dcap, icap):
         self.seed, self.k, self.pages, self.log, self.dcap, self.icap = seed, k, pages, log, dcap, icap
@@ -20,6 +21,9 @@ class Case:
     def add(self, lines, steps, moments=20, stopped=0, failing=0, crashes=False, finishes=False, back=False):
         """Behind a run that goes `back` the next one begins with the file that the first one left."""
         self.runs.append((lines, steps, moments, stopped, failing, crashes, finishes, back))
+
+    def is_wide(self, number):
+        return self.rules[(self.seed + number) % len(self.rules)]
 
     def text(self, number):
         lines, steps = self.runs[number][:2]
@@ -35,12 +39,12 @@ class Case:
         return f"create {self.k} {self.pages} {self.log} {self.dcap} {self.icap}"
 
     def spelled(self):
-        create = ("wide " * WIDE + self.create()).encode()
+        create = self.create().encode()
         size = 8192 + 2 * self.log + 4096 * self.pages
         made = struct.pack(">IIII", self.seed, self.log, size, len(create)) + create + bytes([len(self.runs)])
         for number, (_, _, moments, stopped, failing, crashes, _, back) in enumerate(self.runs):
             text = self.text(number).encode()
-            made += struct.pack(">HBHBHHI", moments, stopped, failing, crashes + 2 * back + 4 * self.aims, *self.watched, len(text)) + text
+            made += struct.pack(">HBHBHHI", moments, stopped, failing, crashes + 2 * back + 4 * self.aims + 8 * self.is_wide(number), *self.watched, len(text)) + text
         return made
 
 

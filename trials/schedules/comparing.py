@@ -50,7 +50,7 @@ class Stepped:
             raise Bad(f"the opening began another turn: {turn}")
         self.clock = sum(kind != "r" for kind, _, _ in run.calls[:self.first])
         fails = () if fails is None else range(fails.start - self.first, fails.stop - self.first)
-        self.made = machine.Machine(case.file, lines, turn, fails)
+        self.made = machine.Machine(case.file, lines, turn, fails, wide=case.is_wide(number))
         for actor, some in itertools.groupby(steps if fails == () or fails.start >= 0 else []):
             self.made.step(actor, len(list(some)))
         self.next_turn = (self.made.turn + 1) % 2

@@ -11,8 +11,6 @@ from workers import MERGER, POSTER, Job, Workers
 
 # whether deletes add jobs to merge
 MERGES = os.environ.get("TRIAL_MERGES", "1") == "1"
-# whether pages are cut by the rule `wide`
-WIDE = os.environ.get("TRIAL_WIDE", "0") == "1"
 SHARED, UPDATE, ALONE = "S", "U", "X"
 
 
@@ -29,10 +27,11 @@ class ReadFault(Exception):
 
 class Machine(Flushing, Workers):
     """A run over a file. `step` takes its steps; `said` is the text then, and `durable` the file that an opening finds. `events` tells
-    which step read, left, wrote and forced what. The calls of the numbers `fails` fail, counted from the first one of the steps."""
+    which step read, left, wrote and forced what. The calls of the numbers `fails` fail, counted from the first one of the steps. It
+    cuts pages by the rule `wide`, or not."""
 
-    def __init__(self, file, lines, turn=1, fails=(), frames=None):
-        self.file, self.durable = file.copy(), file.copy()
+    def __init__(self, file, lines, turn=1, fails=(), frames=None, wide=False):
+        self.file, self.durable, self.wide = file.copy(), file.copy(), wide
         self.turn, self.area, self.fails, self.frames = turn % 2, self.log_at(turn), fails, Frames(frames)
         self.steps, self.events, self.calls, self.clock, self.stopped = 0, [], [], 0, False
         # the file at first and behind each force, and between which values of the clock each force and each switch was; when the
@@ -346,10 +345,11 @@ class Machine(Flushing, Workers):
         self.come_to_number()
         reused = bool(file.free)
         fresh = file.free or file.high + 1
-        stays, made, (way, cuts) = split(file.pages[number], fresh, WIDE)
+        stays, made, (way, cuts) = split(file.pages[number], fresh, self.wide)
+        self.counts["split"] += 1
+        self.counts["cut otherwise than by the other rule"] += split(file.pages[number], fresh, not self.wide)[1] != made
         file.make(made)
         file.pages[number] = stays
-        self.counts["split"] += 1
         self.counts["reused"] += reused
         self.commit(13 + 1 + way + 1 + 10 * cuts, (number,), (fresh,))
         return fresh

@@ -1,7 +1,7 @@
 #!/usr/bin/env python3
 """Random schedules over the whole program, compared with a plain list.
 
-    trials/schedules/random_schedules.py KIND COUNT SEED
+    trials/schedules/random_schedules.py KIND COUNT SEED [RULE]
 
 KIND is `random`, `searching` (random, with searches), `deep` (files of three levels), `failing` (each device call fails, once
 and for good), `searching-failing` (the same with searches), `racing` (two sessions on one page, in all interleavings of their
@@ -11,13 +11,13 @@ the poster and the consolidator), `merging-deep` (the same over files of three l
 over files of more pages than there are frames `framing` (waves of all kinds), `crowding` (each run changes all pages),
 `framing-failing`, `framing-refused` or `framing-short` (a hundred short schedules over copies of each file); over files with the
 smallest log, whose turn ends several times in a run, `switching`, `switching-failing` or `switching-deep` (recoveries inside switches).
+With RULE `wide` each run cuts pages so (`wide drive`), with `turns` every other run over a file.
 Each run that starts with a known file is also taken step by step by a machine in Python (machine.py), also where a call fails. It
 has to print the same, to make the same calls of the disk, and to leave the same pages; each image of a moment has to open to the
 one or two files that the machine says. Of merges and of frames its counts tell. It copies the repository's sources into a
 temporary folder, puts program.txt there as one more program, and runs it unproved (`rt try`); or it runs the program that
-TRIAL_PROGRAM names, which was built of these sources with optimisation, since `rt try` takes a hundred times as long.
-With TRIAL_WIDE=1 pages are cut by the rule `wide`. It prints what was tried, and of the first runs that differ all that it takes to do
-them again. The status is 0 where none does.
+TRIAL_PROGRAM names, which was built of these sources with optimisation, since `rt try` takes a hundred times as long. It prints what was tried, and
+of the first runs that differ all that it takes to do them again. The status is 0 where none does.
 """
 import collections
 import itertools
@@ -29,7 +29,7 @@ import subprocess
 import sys
 import tempfile
 
-from cases import deep_cases, high_cases, merging_cases, merging_deep_cases, merging_refused_cases, racing_cases, random_cases, refused_cases
+from cases import Case, deep_cases, high_cases, merging_cases, merging_deep_cases, merging_refused_cases, racing_cases, random_cases, refused_cases
 from comparing import Told, compare
 from frame_cases import a_crowded_case, a_failing_frames_case, a_framing_case, frame_cases, frames_refused_cases
 from plain_list import Bad
@@ -41,6 +41,7 @@ ROOT = os.path.dirname(os.path.dirname(HERE))
 USES = "hb_space hb_outside hb_disk hb_layout hb_set hb_store hb_restart hb_text hb_ops hbpi"
 # how many schedules are of one file, and how many files of one run of the program
 FILE, BATCH = 20, 50
+RULES = {"least": (False,), "wide": (True,), "turns": (False, True)}
 
 
 # ---- the program
@@ -138,6 +139,7 @@ def refuse(cases, most=None):
 
 def main():
     kind, count, seed = sys.argv[1], int(sys.argv[2]), sys.argv[3]
+    Case.rules = RULES[sys.argv[4] if len(sys.argv) > 4 else "least"]
     if kind == "refused":
         refuse(refused_cases(count, seed))
     if kind == "searching-refused":

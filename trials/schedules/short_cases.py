@@ -20,7 +20,7 @@ def a_filled_file(rng, seed):
     while True:
         case, _ = a_filled_case(rng, seed, rng.choice([640, 680, 720]), rng.choice([65536, 655360, 786432]))
         lines, steps = case.runs[0][:2]
-        made = Machine(File(case.k, case.pages, case.log, case.dcap, case.icap), lines)
+        made = Machine(File(case.k, case.pages, case.log, case.dcap, case.icap), lines, wide=case.is_wide(0))
         for actor in steps:
             made.step(actor)
         pages = [page for page in made.durable.pages.values() if isinstance(page, tuple)]

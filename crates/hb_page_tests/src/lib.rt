@@ -7,7 +7,7 @@
 //! test, since each test is proved too. `spelled` and `drawn` turn text into pages, boxes and
 //! operations, and back, and `replies` keeps what is said of a row.
 //!
-//! Each answer was worked out by hand.
+//! Each answer was worked out by hand, but for those of `wide` (`splits`).
 #![tactic(auto)]
 
 #[cfg(test)]

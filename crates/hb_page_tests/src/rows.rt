@@ -5,6 +5,7 @@ use crate::{
     boxes, carving, changes, great_pages, groups, layouts, pages, places, plans, seen, splits,
     views,
 };
+use hb_split::CutRule;
 use std::alloc::Global;
 use std::process::Abort;
 
@@ -42,8 +43,10 @@ fn answer(reply: &mut Reply, kind: &str, question: &str) {
         "asked" => great_pages::asked(reply, question),
         "seen" => seen::seen(reply, question),
         "groups" => groups::groups(reply, question),
-        "points" => splits::points(reply, question),
-        "steps" => splits::steps(reply, question),
+        "points" => splits::points(reply, CutRule::Least, question),
+        "steps" => splits::steps(reply, CutRule::Least, question),
+        "wide" => splits::points(reply, CutRule::Wide, question),
+        "wide steps" => splits::steps(reply, CutRule::Wide, question),
         "full" => splits::part(reply, question),
         "row" => splits::row(reply, question),
         "post" => plans::post(reply, question),

@@ -1,4 +1,5 @@
-//! The part that leaves a full page, as it was worked out by hand from the rule: its path, and the cuts there.
+//! The part that leaves a full page: its path, and the cuts there. Under the rule `Wide` the answers are those of
+//! trials/pages/model.py, else they were worked out by hand.
 
 ghost use Rattle.std.specs.Prelude.{◌<◌, ◌^◌};
 ghost use Rattle.hb_frag.specs.Leaves.{weight_of};
@@ -9,7 +10,7 @@ use crate::spelled::{frag_of, page_of, point_from};
 use hb_frag::{Frag, Leaf, LivePage};
 use hb_ops::{Meta, local_rule};
 use hb_space::{Area, Body, Point, Record, Records};
-use hb_split::choose;
+use hb_split::{CutRule, choose_by};
 
 // A file of so many attributes, in which a page of records may weigh up to 48, and another one 256.
 fn file_of(k: u8) -> Meta {
@@ -28,7 +29,7 @@ fn file_of(k: u8) -> Meta {
 }
 
 // The part that leaves a page of a sound file.
-fn chosen(reply: &mut Reply, page: &LivePage)
+fn chosen(reply: &mut Reply, rule: CutRule, page: &LivePage)
     requires { weight_of page.now.frag < 2 ^ 32 }
 {
     let file = file_of(page.area.lo().attributes());
@@ -38,7 +39,7 @@ fn chosen(reply: &mut Reply, page: &LivePage)
     let None = local_rule(page, &file) else {
         return reply.need(false);
     };
-    match choose(reply.alloc, page) {
+    match choose_by(reply.alloc, rule, page) {
         Ok(part) => {
             say_path(reply, &part.path);
             say_cuts(reply, &part.cuts);
@@ -50,7 +51,7 @@ fn chosen(reply: &mut Reply, page: &LivePage)
 /// The part that leaves a page.
 pub(crate) fn part(reply: &mut Reply, question: &str) {
     let page = page_of(reply, question);
-    chosen(reply, &page);
+    chosen(reply, CutRule::Least, &page);
 }
 
 // Adds a record of the point with an empty body.
@@ -61,7 +62,7 @@ fn add_at(reply: &mut Reply, records: &mut Vec<Record>, key: Point) {
 }
 
 // The part that leaves a page with records of three attributes alone.
-fn chosen_of(reply: &mut Reply, records: Vec<Record>) {
+fn chosen_of(reply: &mut Reply, rule: CutRule, records: Vec<Record>) {
     if records.len() > 48 {
         return reply.need(false);
     }
@@ -70,22 +71,22 @@ fn chosen_of(reply: &mut Reply, records: Vec<Record>) {
         area: Area::whole(3),
         frag: Frag::tip(Leaf::Records(Records::new(records))),
     };
-    chosen(reply, &page);
+    chosen(reply, rule, &page);
 }
 
 /// The part that leaves a page with these points of three attributes.
-pub(crate) fn points(reply: &mut Reply, question: &str) {
+pub(crate) fn points(reply: &mut Reply, rule: CutRule, question: &str) {
     let mut records = Vec::new(reply.alloc);
     for point in question.split(", ") {
         let point = point_from(reply, point);
         add_at(reply, &mut records, point);
     }
-    chosen_of(reply, records);
+    chosen_of(reply, rule, records);
 }
 
 /// The part that leaves a page of 48 records, each of whose points adds the same to the one before: from these three
 /// values.
-pub(crate) fn steps(reply: &mut Reply, question: &str) {
+pub(crate) fn steps(reply: &mut Reply, rule: CutRule, question: &str) {
     let step = point_from(reply, question);
     let mut at = [0u64; 3];
     let mut records = Vec::new(reply.alloc);
@@ -95,7 +96,7 @@ pub(crate) fn steps(reply: &mut Reply, question: &str) {
         }
         add_at(reply, &mut records, Point::new(&at));
     }
-    chosen_of(reply, records);
+    chosen_of(reply, rule, records);
 }
 
 // Says so many children, each cut of which parts one more from those on its right.
@@ -121,7 +122,7 @@ pub(crate) fn row(reply: &mut Reply, question: &str) {
         area: Area::whole(3),
         frag: frag_of(reply, tree.text()),
     };
-    chosen(reply, &page);
+    chosen(reply, CutRule::Least, &page);
 }
 
 pub(crate) const ROWS: &str = "
@@ -136,6 +137,20 @@ points: 0 1 0, 0 2 0, 0 3 0, 0 4 0, 0 5 0, 0 6 0, 0 7 0, 0 8 0, 9 1 0, 9 2 0, 9 
 // full pages, on a diagonal and where the last attribute alone differs
 steps: 1 1 1 => . 0L25
 steps: 0 0 10 => . 2L250
+// the rule `Wide`. Of ends of the axes that extend equally the first is taken. The second cut is made where the records
+// that are left extend furthest, and with one end further off the first cut, too
+wide: 1 5 5, 5 1 5, 5 5 1, 5 5 9, 5 9 5, 9 5 5 => . 0R5,1R5
+wide: 1 5 5, 5 1 5, 5 5 0, 5 5 9, 5 9 5, 9 5 5 => . 2R5,0R5
+// greatest value less least, up to the greatest one that there is. A lighter heavier side comes first, and of
+// two planes of one attribute the least
+wide: 100 0 0, 101 10 0, 102 20 0, 103 30 0, 104 40 0, 105 50 0 => . 1L30
+wide: 0 0 0, 1 1 0, 2 2 0, 3 3 0, 4 4 0, 18446744073709551614 18446744073709551615 0 => . 1L3
+wide: 0 0 0, 1 0 0, 2 0 0, 3 0 0, 4 0 0, 5 0 900 => . 0L3
+wide: 0 0 10, 1 0 20, 2 0 30, 3 0 40, 4 0 50, 5 0 60, 6 0 70 => . 2R40
+// full pages on a diagonal
+wide steps: 1 1 1 => . 0L25
+wide steps: 1 2 3 => . 2L75
+wide steps: 1 3 3 => . 1L75
 // three leaves around two boxes that were given away. Of 14 the right side has 9, which is little
 // enough. Of 17 the leaf in the middle has 12, which is too much: it is cut in its middle
 full: 0 ( 1=,2=,3=,4=,5= |0:20| ( >2 |0:40| ( 40=,41=,42=,43= |0:60| ( >3 |0:80| 80=,81=,82= ) ) ) ) => R -
