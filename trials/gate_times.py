@@ -3,7 +3,7 @@
 
     python3 trials/gate_times.py [--kept] [--write]
 
-A row of the table is a crate, with the processor minutes of its proof, of its tests' proofs and of
+A row of the table is a crate, or all that are small, with the processor minutes of its proof, of its tests' proofs and of
 its must-fail edits. `--kept` takes what earlier runs kept (a table of what changed); `--write` puts the
 table into docs/PROOFS.md. Let nothing run beside it: the minutes are the processes' own, but each takes
 longer where others crowd the memory. Two runs agree within a tenth.
@@ -22,6 +22,8 @@ PAGE = f"{ROOT}/docs/PROOFS.md"
 BEGIN, END = "<!-- trials/gate_times.py -->", "<!-- end of the table -->"
 KINDS = ("proof", "tests", "edits")
 POLL = 0.5
+# Crates that take less than so many seconds stand in one row.
+SMALL = 180
 
 
 def words_of(pid):
@@ -125,13 +127,19 @@ def longest(clocks):
     return max(chain(crate) for crate in below)
 
 
+def added(rows):
+    """The sums of rows, kind by kind."""
+    return {kind: sum(row[kind] for row in rows) for kind in KINDS}
+
+
 def markdown(watch, whole, clock):
     rows, minutes = watch.table(), lambda seconds: f"{seconds / 60:.1f}"
     lines = ["| Crate | Proof | Tests | Edits | All |", "|---|--:|--:|--:|--:|"]
-    for crate, row in sorted(rows.items(), key=lambda it: -sum(it[1].values())):
-        lines.append(f"| {crate} | {' | '.join(minutes(row[kind]) for kind in KINDS)} | {minutes(sum(row.values()))} |")
-    sums = [sum(row[kind] for row in rows.values()) for kind in KINDS]
-    lines.append(f"| **all** | {' | '.join(minutes(it) for it in sums)} | {minutes(sum(sums))} |")
+    in_order = sorted(rows.items(), key=lambda it: -sum(it[1].values()))
+    small = [row for _, row in in_order if sum(row.values()) < SMALL]
+    great = in_order[: len(in_order) - len(small)]
+    for crate, sums in [*great, (f"{len(small)} others", added(small)), ("**all**", added(rows.values()))]:
+        lines.append(f"| {crate} | {' | '.join(minutes(sums[kind]) for kind in KINDS)} | {minutes(sum(sums.values()))} |")
     chain = longest(watch.clocks())
     lines += [
         "",
