@@ -23,6 +23,7 @@ use hb_frag::{Frag, Leaf, LivePage, Node, Path, Side};
 use hb_ops::{Cuts, Meta, Op, Standing, has_room, local_rule, look_at};
 use hb_set::{Command, Line, Reply};
 use hb_space::{Area, Areas, Body, Point, Record, Records};
+use hb_split::CutRule;
 use hb_view::PageView;
 use std::alloc::Global;
 
@@ -207,7 +208,15 @@ fn split(alloc: Global, latched: Latched<'_>, rec: Record) -> Option<Next>
         line: line(Command::Insert(rec)),
         held: latched.id,
     };
-    hb_point::next(alloc, state, latched, None, free_of(latched.meta)).ok()
+    hb_point::next(
+        alloc,
+        CutRule::Least,
+        state,
+        latched,
+        None,
+        free_of(latched.meta),
+    )
+    .ok()
 }
 
 // The step of a walk at the page, which is read from its bytes.
@@ -262,7 +271,15 @@ fn post(alloc: Global, over: &LivePage, child: Latched<'_>, job: Job) -> Option<
         return None;
     }
     let state = Activity::PosterAgain { job, parent: 3 };
-    hb_poster::next(alloc, state, child, Some(over), free_of(child.meta)).ok()
+    hb_poster::next(
+        alloc,
+        CutRule::Least,
+        state,
+        child,
+        Some(over),
+        free_of(child.meta),
+    )
+    .ok()
 }
 
 // The step of the poster at the page and the child below it.
