@@ -4,8 +4,6 @@ import itertools
 import random
 import struct
 
-from machine import WIDE
-
 
 class Case:
     """A file and its runs: of each the lines, the schedule, and what is wanted of it."""
@@ -35,7 +33,7 @@ class Case:
         return f"create {self.k} {self.pages} {self.log} {self.dcap} {self.icap}"
 
     def spelled(self):
-        create = ("wide " * WIDE + self.create()).encode()
+        create = self.create().encode()
         size = 8192 + 2 * self.log + 4096 * self.pages
         made = struct.pack(">IIII", self.seed, self.log, size, len(create)) + create + bytes([len(self.runs)])
         for number, (_, _, moments, stopped, failing, crashes, _, back) in enumerate(self.runs):

@@ -11,8 +11,6 @@ from workers import MERGER, POSTER, Job, Workers
 
 # whether deletes add jobs to merge
 MERGES = os.environ.get("TRIAL_MERGES", "1") == "1"
-# whether pages are cut by the rule `wide`
-WIDE = os.environ.get("TRIAL_WIDE", "0") == "1"
 SHARED, UPDATE, ALONE = "S", "U", "X"
 
 
@@ -346,7 +344,7 @@ class Machine(Flushing, Workers):
         self.come_to_number()
         reused = bool(file.free)
         fresh = file.free or file.high + 1
-        stays, made, (way, cuts) = split(file.pages[number], fresh, WIDE)
+        stays, made, (way, cuts) = split(file.pages[number], fresh)
         file.make(made)
         file.pages[number] = stays
         self.counts["split"] += 1

@@ -15,9 +15,8 @@ Each run that starts with a known file is also taken step by step by a machine i
 has to print the same, to make the same calls of the disk, and to leave the same pages; each image of a moment has to open to the
 one or two files that the machine says. Of merges and of frames its counts tell. It copies the repository's sources into a
 temporary folder, puts program.txt there as one more program, and runs it unproved (`rt try`); or it runs the program that
-TRIAL_PROGRAM names, which was built of these sources with optimisation, since `rt try` takes a hundred times as long.
-With TRIAL_WIDE=1 pages are cut by the rule `wide`. It prints what was tried, and of the first runs that differ all that it takes to do
-them again. The status is 0 where none does.
+TRIAL_PROGRAM names, which was built of these sources with optimisation, since `rt try` takes a hundred times as long. It prints what was tried, and
+of the first runs that differ all that it takes to do them again. The status is 0 where none does.
 """
 import collections
 import itertools
