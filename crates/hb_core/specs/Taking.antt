@@ -106,7 +106,7 @@ begun_core_by rule lines steps store uses = record {
   done = no_counts;
 }
 
--- the same under the papers' rule
+-- the same under the rule `Least`
 abbrev pub begun_core : List Line → List ℕ → StoreState → List Use → RunningCore
 begun_core lines steps store uses = begun_core_by Least lines steps store uses
 

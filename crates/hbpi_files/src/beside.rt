@@ -3,7 +3,8 @@
 use hb_disk::{Disk, MemDisk};
 use hb_outside::{MemSink, MemSource};
 use hb_run::FreeGate;
-use hbpi::{Call, Ended, Trouble, run, top};
+use hbpi::top::top_by;
+use hbpi::{Call, Ended, Trouble, asked_of, run};
 use std::alloc::Global;
 use std::io::{Read, Write};
 use std::sync::Wait;
@@ -77,8 +78,17 @@ pub(crate) fn on_disk<R: Threads + Wait + Sync, D: Disk + Drop + Send>(
     let text = Vec::from_slice(alloc, text.as_bytes())?;
     let mut source = MemSource::new(text, Vec::new(alloc));
     let sink = MemSink::new(alloc, Vec::new(alloc));
-    let words = call.words.as_slice();
-    let finished = top::top(threads, alloc, words, &mut source, sink, disk, &FreeGate);
+    let (rule, words) = asked_of(call.words.as_slice());
+    let finished = top_by(
+        threads,
+        alloc,
+        rule,
+        words,
+        &mut source,
+        sink,
+        disk,
+        &FreeGate,
+    );
     let outcome = Outcome {
         status: finished.status.code(),
         output: Vec::from_slice(alloc, finished.sink.bytes())?,

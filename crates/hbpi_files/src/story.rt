@@ -78,6 +78,17 @@ const SEARCH: &str = "1 search 0 5 0 9
 step 1x20
 ";
 
+/// Seven records, the last of which splits the page: across the first attribute, or under `wide` across the second.
+const HIGHER: &str = "1 insert 1 10 =
+1 insert 2 20 =
+1 insert 3 30 =
+1 insert 4 40 =
+1 insert 5 50 =
+1 insert 6 60 =
+1 insert 7 70 =
+step 1x31
+";
+
 /// Log area 1 of a new file isn't in use, so it may have any bytes: the same ones here and there. An opening zeroes it.
 fn fill_area(rt: &HostRuntime, pair: Pair) -> io::Result<Pair> {
     let filling = [165; 4096];
@@ -140,7 +151,9 @@ fn hold_a_new_file<R: Threads + Wait + Sync>(rt: &HostRuntime, threads: &R) -> i
     pair.call_that_changes_nothing(rt, threads, "drive", LOOKUP)?;
     drop(held);
     println!(rt; "let go")?;
-    pair.call(rt, threads, "drive", LOOKUP)?;
+    let pair = pair.call(rt, threads, "drive", LOOKUP)?;
+    pair.call_that_changes_nothing(rt, threads, "wide check", "")?;
+    pair.call(rt, threads, "wide drive", HIGHER)?;
     Ok(())
 }
 

@@ -213,30 +213,30 @@ module _ (d : DiskModel) (c : RunningCore) (m : Machine) (actor : ℕ) (free : O
       at_hand activity its deed is (row_of_poster (sight (with_memory c m)) activity its.wanted.page its.page deed class working
       (subst (λ (q : LivePage). PosterRow activity (sight_in c.store m.rule (length m.order)) its.wanted.page q deed) same at_page.2))
 
-  pub decided_session : (activity : Activity) (wanted : Option Wanted) (st : StoreState) (deed : Activity → Deed) → StandsAs c actor activity → wanted ≡ wanted_by m actor → st ≡ c.store → (actor == 17) ≡ false → (actor == 18) ≡ false → (WalksToSearch activity → ⊥)
-      → HasPointRow st c.rule activity (number_of_row activity wanted) (length m.order) (deed activity) → Row (m.activity actor) (wanted_by m actor) (with_memory c m) (deed (m.activity actor))
-  decided_session activity wanted st deed stood wants same off other none row =
+  pub decided_session : (activity : Activity) (wanted : Option Wanted) (st : StoreState) (rule : CutRule) (deed : Activity → Deed) → StandsAs c actor activity → wanted ≡ wanted_by m actor → st ≡ c.store → rule ≡ c.rule → (actor == 17) ≡ false → (actor == 18) ≡ false → (WalksToSearch activity → ⊥)
+      → HasPointRow st rule activity (number_of_row activity wanted) (length m.order) (deed activity) → Row (m.activity actor) (wanted_by m actor) (with_memory c m) (deed (m.activity actor))
+  decided_session activity wanted st rule deed stood wants same same_rule off other none row =
       let is = stands activity stood in
-      let here = subst (λ (st : StoreState). HasPointRow st c.rule activity (number_of_row activity wanted) (length m.order) (deed activity)) same row in
-      let ruled = subst (λ (rule : CutRule). HasPointRow c.store rule activity (number_of_row activity wanted) (length m.order) (deed activity)) (sym has.shows.rule) here in
+      let here = subst (λ (st : StoreState). HasPointRow st rule activity (number_of_row activity wanted) (length m.order) (deed activity)) same row in
+      let ruled = subst (λ (rule : CutRule). HasPointRow c.store rule activity (number_of_row activity wanted) (length m.order) (deed activity)) (same_rule ∙ sym has.shows.rule) here in
       let own = subst (λ (w : Option Wanted). HasPointRow c.store m.rule activity (number_of_row activity w) (length m.order) (deed activity)) wants ruled in
       subst (λ (a : Activity). OwnRow a (wanted_by m actor) (deed a)) (sym is) (session_row activity (deed activity) is (is_session activity is off other) (works activity is) none own)
 
-  pub decided_search : (activity : Activity) (wanted : Option Wanted) (st : StoreState) (deed : Activity → Deed) → StandsAs c actor activity → wanted ≡ wanted_by m actor → st ≡ c.store → WalksToSearch activity
-      → HasSearchRow st c.rule activity (number_of_row activity wanted) (length m.order) (deed activity) → Row (m.activity actor) (wanted_by m actor) (with_memory c m) (deed (m.activity actor))
-  decided_search activity wanted st deed stood wants same searches row =
+  pub decided_search : (activity : Activity) (wanted : Option Wanted) (st : StoreState) (rule : CutRule) (deed : Activity → Deed) → StandsAs c actor activity → wanted ≡ wanted_by m actor → st ≡ c.store → rule ≡ c.rule → WalksToSearch activity
+      → HasSearchRow st rule activity (number_of_row activity wanted) (length m.order) (deed activity) → Row (m.activity actor) (wanted_by m actor) (with_memory c m) (deed (m.activity actor))
+  decided_search activity wanted st rule deed stood wants same same_rule searches row =
       let is = stands activity stood in
-      let here = subst (λ (st : StoreState). HasSearchRow st c.rule activity (number_of_row activity wanted) (length m.order) (deed activity)) same row in
-      let ruled = subst (λ (rule : CutRule). HasSearchRow c.store rule activity (number_of_row activity wanted) (length m.order) (deed activity)) (sym has.shows.rule) here in
+      let here = subst (λ (st : StoreState). HasSearchRow st rule activity (number_of_row activity wanted) (length m.order) (deed activity)) same row in
+      let ruled = subst (λ (rule : CutRule). HasSearchRow c.store rule activity (number_of_row activity wanted) (length m.order) (deed activity)) (same_rule ∙ sym has.shows.rule) here in
       let own = subst (λ (w : Option Wanted). HasSearchRow c.store m.rule activity (number_of_row activity w) (length m.order) (deed activity)) wants ruled in
       subst (λ (a : Activity). OwnRow a (wanted_by m actor) (deed a)) (sym is) (search_row activity (deed activity) is searches own)
 
-  pub decided_poster : (activity : Activity) (wanted : Option Wanted) (st : StoreState) (deed : Activity → Deed) → StandsAs c actor activity → wanted ≡ wanted_by m actor → st ≡ c.store → actor ≡ 17
-      → HasPosterRow st c.rule activity (number_of_row activity wanted) (length m.order) (deed activity) → Row (m.activity actor) (wanted_by m actor) (with_memory c m) (deed (m.activity actor))
-  decided_poster activity wanted st deed stood wants same poster row =
+  pub decided_poster : (activity : Activity) (wanted : Option Wanted) (st : StoreState) (rule : CutRule) (deed : Activity → Deed) → StandsAs c actor activity → wanted ≡ wanted_by m actor → st ≡ c.store → rule ≡ c.rule → actor ≡ 17
+      → HasPosterRow st rule activity (number_of_row activity wanted) (length m.order) (deed activity) → Row (m.activity actor) (wanted_by m actor) (with_memory c m) (deed (m.activity actor))
+  decided_poster activity wanted st rule deed stood wants same same_rule poster row =
       let is = stands activity stood in
-      let here = subst (λ (st : StoreState). HasPosterRow st c.rule activity (number_of_row activity wanted) (length m.order) (deed activity)) same row in
-      let ruled = subst (λ (rule : CutRule). HasPosterRow c.store rule activity (number_of_row activity wanted) (length m.order) (deed activity)) (sym has.shows.rule) here in
+      let here = subst (λ (st : StoreState). HasPosterRow st rule activity (number_of_row activity wanted) (length m.order) (deed activity)) same row in
+      let ruled = subst (λ (rule : CutRule). HasPosterRow c.store rule activity (number_of_row activity wanted) (length m.order) (deed activity)) (same_rule ∙ sym has.shows.rule) here in
       let own = subst (λ (w : Option Wanted). HasPosterRow c.store m.rule activity (number_of_row activity w) (length m.order) (deed activity)) wants ruled in
       subst (λ (a : Activity). OwnRow a (wanted_by m actor) (deed a)) (sym is) (poster_row activity (deed activity) is (posts activity is poster) (works activity is) own)
 
@@ -248,11 +248,11 @@ module _ (d : DiskModel) (c : RunningCore) (m : Machine) (actor : ℕ) (free : O
       at_hand activity its deed is (row_of_merger (sight (with_memory c m)) activity its.wanted.page its.page deed merging
       (subst (λ (q : LivePage). ConsolidatorRow activity (sight_in c.store m.rule (length m.order)) its.wanted.page q deed) same at_page.2))
 
-  pub decided_merger : (activity : Activity) (wanted : Option Wanted) (st : StoreState) (deed : Activity → Deed) → StandsAs c actor activity → wanted ≡ wanted_by m actor → st ≡ c.store → actor ≡ 18
-      → HasMergerRow st c.rule activity (number_of_row activity wanted) (length m.order) (deed activity) → Row (m.activity actor) (wanted_by m actor) (with_memory c m) (deed (m.activity actor))
-  decided_merger activity wanted st deed stood wants same merger row =
+  pub decided_merger : (activity : Activity) (wanted : Option Wanted) (st : StoreState) (rule : CutRule) (deed : Activity → Deed) → StandsAs c actor activity → wanted ≡ wanted_by m actor → st ≡ c.store → rule ≡ c.rule → actor ≡ 18
+      → HasMergerRow st rule activity (number_of_row activity wanted) (length m.order) (deed activity) → Row (m.activity actor) (wanted_by m actor) (with_memory c m) (deed (m.activity actor))
+  decided_merger activity wanted st rule deed stood wants same same_rule merger row =
       let is = stands activity stood in
-      let here = subst (λ (st : StoreState). HasMergerRow st c.rule activity (number_of_row activity wanted) (length m.order) (deed activity)) same row in
-      let ruled = subst (λ (rule : CutRule). HasMergerRow c.store rule activity (number_of_row activity wanted) (length m.order) (deed activity)) (sym has.shows.rule) here in
+      let here = subst (λ (st : StoreState). HasMergerRow st rule activity (number_of_row activity wanted) (length m.order) (deed activity)) same row in
+      let ruled = subst (λ (rule : CutRule). HasMergerRow c.store rule activity (number_of_row activity wanted) (length m.order) (deed activity)) (same_rule ∙ sym has.shows.rule) here in
       let own = subst (λ (w : Option Wanted). HasMergerRow c.store m.rule activity (number_of_row activity w) (length m.order) (deed activity)) wants ruled in
       subst (λ (a : Activity). OwnRow a (wanted_by m actor) (deed a)) (sym is) (merger_row activity (deed activity) is (merges activity is merger) own)

@@ -32,8 +32,8 @@ ask_searcher-requires g c =
 pub returns-then-walks_to_search-clause-row : goal.returns-then-walks_to_search-clause-row
 returns-then-walks_to_search-clause-row g c =
     IfOk-weaker c.ask_searcher.result _ _ (λ next row m has.
-    decided_search (g.D.Device.model (core_disk c.args.self.now)) (core_seen c.args.self.now) m c.args.actor c.args.free c.requires.actor has c.replace-state.result c.args.wanted (core_seen c.replace-state.new.self).store
-    (λ (activity : Activity). placed (length m.order) (deed_of activity next)) c.replace-state.ensures.old (c.requires.wanted m has) (ap (λ (core : RunningCore). core.store) c.replace-state.ensures.new.does)
+    decided_search (g.D.Device.model (core_disk c.args.self.now)) (core_seen c.args.self.now) m c.args.actor c.args.free c.requires.actor has c.replace-state.result c.args.wanted (core_seen c.replace-state.new.self).store (core_seen c.replace-state.new.self).rule
+    (λ (activity : Activity). placed (length m.order) (deed_of activity next)) c.replace-state.ensures.old (c.requires.wanted m has) (ap (λ (core : RunningCore). core.store) c.replace-state.ensures.new.does) (ap (λ (core : RunningCore). core.rule) c.replace-state.ensures.new.does)
     (c.walks_to_search.ensures.0 c.if-walks_to_search.true) (row (length m.order))) c.ask_searcher.ensures.row
 
 pub returns-then-walks_to_search-clause-memory : goal.returns-then-walks_to_search-clause-memory
@@ -45,8 +45,8 @@ returns-then-walks_to_search-clause-memory g c =
 pub returns-then-actor-eq-POSTER-clause-row : goal.returns-then-actor-eq-POSTER-clause-row
 returns-then-actor-eq-POSTER-clause-row g c =
     IfOk-weaker c.ask_poster.result _ _ (λ next row m has.
-    decided_poster (g.D.Device.model (core_disk c.args.self.now)) (core_seen c.args.self.now) m c.args.actor c.args.free c.requires.actor has c.replace-state.result c.args.wanted (core_seen c.replace-state.new.self).store
-    (λ (activity : Activity). placed (length m.order) (deed_of activity next)) c.replace-state.ensures.old (c.requires.wanted m has) (ap (λ (core : RunningCore). core.store) c.replace-state.ensures.new.does)
+    decided_poster (g.D.Device.model (core_disk c.args.self.now)) (core_seen c.args.self.now) m c.args.actor c.args.free c.requires.actor has c.replace-state.result c.args.wanted (core_seen c.replace-state.new.self).store (core_seen c.replace-state.new.self).rule
+    (λ (activity : Activity). placed (length m.order) (deed_of activity next)) c.replace-state.ensures.old (c.requires.wanted m has) (ap (λ (core : RunningCore). core.store) c.replace-state.ensures.new.does) (ap (λ (core : RunningCore). core.rule) c.replace-state.ensures.new.does)
     c.if-actor-eq-POSTER.true (row (length m.order))) c.ask_poster.ensures.row
 
 pub returns-then-actor-eq-POSTER-clause-memory : goal.returns-then-actor-eq-POSTER-clause-memory
@@ -57,8 +57,8 @@ returns-then-actor-eq-POSTER-clause-memory g c =
 pub returns-else-actor-eq-CONSOLIDATOR-clause-row : goal.returns-else-actor-eq-CONSOLIDATOR-clause-row
 returns-else-actor-eq-CONSOLIDATOR-clause-row g c =
     IfOk-weaker c.ask_session.result _ _ (λ next row m has.
-    decided_session (g.D.Device.model (core_disk c.args.self.now)) (core_seen c.args.self.now) m c.args.actor c.args.free c.requires.actor has c.replace-state.result c.args.wanted (core_seen c.replace-state.new.self).store
-    (λ (activity : Activity). placed (length m.order) (deed_of activity next)) c.replace-state.ensures.old (c.requires.wanted m has) (ap (λ (core : RunningCore). core.store) c.replace-state.ensures.new.does)
+    decided_session (g.D.Device.model (core_disk c.args.self.now)) (core_seen c.args.self.now) m c.args.actor c.args.free c.requires.actor has c.replace-state.result c.args.wanted (core_seen c.replace-state.new.self).store (core_seen c.replace-state.new.self).rule
+    (λ (activity : Activity). placed (length m.order) (deed_of activity next)) c.replace-state.ensures.old (c.requires.wanted m has) (ap (λ (core : RunningCore). core.store) c.replace-state.ensures.new.does) (ap (λ (core : RunningCore). core.rule) c.replace-state.ensures.new.does)
     (ne_eqb c.args.actor 17 c.if-actor-eq-POSTER.false) (ne_eqb c.args.actor 18 c.if-actor-eq-CONSOLIDATOR.false) (λ searches. false≢true (sym c.if-walks_to_search.false ∙ c.walks_to_search.ensures.1 searches)) (row (length m.order))) c.ask_session.ensures.row
 
 pub returns-else-actor-eq-CONSOLIDATOR-clause-memory : goal.returns-else-actor-eq-CONSOLIDATOR-clause-memory
@@ -75,8 +75,8 @@ ask_merger-requires g c =
 pub returns-then-actor-eq-CONSOLIDATOR-clause-row : goal.returns-then-actor-eq-CONSOLIDATOR-clause-row
 returns-then-actor-eq-CONSOLIDATOR-clause-row g c =
     IfOk-weaker c.ask_merger.result _ _ (λ next row m has.
-    decided_merger (g.D.Device.model (core_disk c.args.self.now)) (core_seen c.args.self.now) m c.args.actor c.args.free c.requires.actor has c.replace-state.result c.args.wanted (core_seen c.replace-state.new.self).store
-    (λ (activity : Activity). placed (length m.order) (deed_of activity next)) c.replace-state.ensures.old (c.requires.wanted m has) (ap (λ (core : RunningCore). core.store) c.replace-state.ensures.new.does)
+    decided_merger (g.D.Device.model (core_disk c.args.self.now)) (core_seen c.args.self.now) m c.args.actor c.args.free c.requires.actor has c.replace-state.result c.args.wanted (core_seen c.replace-state.new.self).store (core_seen c.replace-state.new.self).rule
+    (λ (activity : Activity). placed (length m.order) (deed_of activity next)) c.replace-state.ensures.old (c.requires.wanted m has) (ap (λ (core : RunningCore). core.store) c.replace-state.ensures.new.does) (ap (λ (core : RunningCore). core.rule) c.replace-state.ensures.new.does)
     c.if-actor-eq-CONSOLIDATOR.true (row (length m.order))) c.ask_merger.ensures.row
 
 pub returns-then-actor-eq-CONSOLIDATOR-clause-memory : goal.returns-then-actor-eq-CONSOLIDATOR-clause-memory
