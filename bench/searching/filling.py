@@ -18,11 +18,12 @@ def drive(file, commands, steps, rule="least"):
     return said, after.ru_utime + after.ru_stime - before.ru_utime - before.ru_stime
 
 
-def fill(file, points, k, rule="least"):
-    """A file of these points that was made by this rule, with an empty log."""
+def fill(file, points, k, rule="least", rounds="step" + " 1x20 p" * 25):
+    """A file of these points that was made by this rule, with an empty log. Each step line has 500 steps of the session, and there are
+    nine of these for a line."""
     subprocess.run([PROGRAM, file, "create", str(k), "65536", "67108864", "48", "256"], check=True, stdout=subprocess.DEVNULL)
     for at in range(0, len(points), BATCH):
         lines = [f"1 insert {' '.join(map(str, point))} =" for point in points[at:at + BATCH]]
-        said, _ = drive(file, lines, ["step" + " 1x20 p" * 25] * (len(lines) * 9 // 500 + 1), rule)
+        said, _ = drive(file, lines, [rounds] * (len(lines) * 9 // 500 + 1), rule)
         assert said.count(" ok\n") == len(lines), said[-200:]
     drive(file, [], [], rule)

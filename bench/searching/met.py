@@ -62,7 +62,8 @@ def told(tree, searches):
 
 
 def made(folder, found, k, rule):
-    fill(f"{folder}/file", found, k, rule)
+    # where an attribute rises all lines come to one page, and the poster has to keep up with it
+    fill(f"{folder}/file", found, k, rule, "step" + " 1x20 px8" * 25)
     tree = Tree(f"{folder}/file")
     os.remove(f"{folder}/file")
     return tree
