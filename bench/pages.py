@@ -49,6 +49,27 @@ class Tree:
             most = max(most, len(rest))
         return steps, walks, len(leaves), most
 
+    def search_by_cuts(self, box):
+        """The walks of a search that parts its box at each cut on its way down, the leaves of records that it was at, and how many boxes
+        it kept at once."""
+        rest, walks, most, leaves = [box], 0, 1, set()
+        while rest:
+            at, number = rest.pop(), self.root
+            while number is not None:
+                last, node, way = number, self.pages[number][2], 0
+                while node[0] == "cut":
+                    _, axis, value, left, right = node
+                    low, high = at[axis]
+                    if low < value <= high:
+                        rest.append(at[:axis] + [(value, high)] + at[axis + 1:])
+                        at = at[:axis] + [(low, value - 1)] + at[axis + 1:]
+                    node, way = (left, 2 * way + 2) if low < value else (right, 2 * way + 1)
+                number = None if node[0] == "records" else node[1]
+            walks += 1
+            leaves.add((last, way))
+            most = max(most, len(rest))
+        return walks, len(leaves), most
+
     def met(self, box):
         """The pages above the records that a box meets, the leaves in them that name a child and meet it, and how many children these name."""
         left, above, leaves, children = [self.root], set(), 0, set()

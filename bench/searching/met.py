@@ -52,13 +52,14 @@ def mean(numbers):
 
 
 def told(tree, searches):
-    """Of each search: leaves of records, walks, walks where it forgets; the pages above met, the leaves in these that name a child, and
-    these children; and the greatest number of boxes at once, and where it parts."""
-    plain, forgets, parts = ([tree.search(box, **how) for box in searches] for how in ({}, {"forgets": True}, {"parts": True}))
-    assert all(walks == leaves for _, walks, leaves, _ in parts)
+    """Of each search: leaves of records, walks, walks where it forgets and where it goes by cuts; the pages above met, the leaves in these
+    that name a child, and these children; and the greatest number of boxes at once, also where it parts and where it goes by cuts."""
+    plain, forgets, parts = ([tree.search(box, **how)[1:] for box in searches] for how in ({}, {"forgets": True}, {"parts": True}))
+    by_cuts = [tree.search_by_cuts(box) for box in searches]
+    assert all(walks == leaves for walks, leaves, _ in parts) and [it[1] for it in by_cuts] == [it[1] for it in plain]
     above = [tree.met(box) for box in searches]
-    most = [max(it[3] for it in rows) for rows in (plain, parts)]
-    return [mean([it[2] for it in plain]), *(mean([it[1] for it in rows]) for rows in (plain, forgets)), *(mean(it) for it in zip(*above)), *most]
+    most = [max(it[2] for it in rows) for rows in (plain, parts, by_cuts)]
+    return [mean([it[1] for it in plain]), *(mean([it[0] for it in rows]) for rows in (plain, forgets, by_cuts)), *(mean(it) for it in zip(*above)), *most]
 
 
 def made(folder, found, k, rule):
@@ -77,14 +78,14 @@ def rows(folder, kind, k, count):
     for name, searches in asked(kind, k, found):
         numbers = [told(tree, searches) for tree in trees]
         above, leaves = (mean(it) for it in zip(*(beside.met([(low, min(high, 2 ** 63)) for low, high in box]) for box in searches)))
-        cells = [f"{one:,.1f} / {other:,.1f}" if at < 6 else f"{one} / {other}" for at, (one, other) in enumerate(zip(*numbers))]
+        cells = [f"{one:,.1f} / {other:,.1f}" if at < 7 else f"{one} / {other}" for at, (one, other) in enumerate(zip(*numbers))]
         print("| " + " | ".join([kind, str(k), name, *cells, f"{leaves:,.1f}", f"{above:,.1f}"]) + " |", flush=True)
 
 
 def main(count, kinds):
     print("Of each pair the first is of a file that was made without `wide`, the second of one with it. All are means of a search but the boxes at once.\n")
-    heads = ("Records", "K", "Search", "leaves met", "walks", "walks, forgetting", "pages above", "child leaves met", "children met",
-             "boxes at once", "parting", "R*Tree: leaves", "nodes above")
+    heads = ("Records", "K", "Search", "leaves met", "walks", "walks, forgetting", "walks, by cuts", "pages above", "child leaves met", "children met",
+             "boxes at once", "parting", "by cuts", "R*Tree: leaves", "nodes above")
     print(f"| {' | '.join(heads)} |\n|---|--:|---|{'--:|' * (len(heads) - 3)}")
     with tempfile.TemporaryDirectory(dir="/dev/shm") as folder:
         for kind in kinds or KINDS:
