@@ -2,7 +2,7 @@
 use Rattle.std.specs.Prelude.{Option, Some, None, true, false}
 use Rattle.hb_space.specs.Boxes.{point_area}
 use Rattle.hb_set.specs.declared.commands.Command.{Command}
-use Rattle.hb_set.specs.declared.commands.Command.TheVariants.{Insert, Delete, Lookup, Search}
+use Rattle.hb_set.specs.declared.commands.Command.TheVariants.{Insert, Delete, Change, Lookup, Search}
 use Rattle.hb_boxlock.specs.declared.locks.BoxLock.{BoxLock}
 use Rattle.hb_activity.specs.declared.activities.Activity.{Activity}
 use Rattle.hb_activity.specs.declared.activities.Activity.TheVariants.{SessionWalk, SessionSplit, SessionPut}
@@ -11,6 +11,7 @@ use Rattle.hb_activity.specs.declared.activities.Activity.TheVariants.{SessionWa
 abbrev pub lock_of_command : Command → BoxLock
 lock_of_command (Insert added) = record { area = point_area added.key; shared = false }
 lock_of_command (Delete point) = record { area = point_area point; shared = false }
+lock_of_command (Change changed) = record { area = point_area changed.key; shared = false }
 lock_of_command (Lookup point) = record { area = point_area point; shared = true }
 lock_of_command (Search area) = record { area = area; shared = true }
 

@@ -7,7 +7,7 @@ use Rattle.hb_frag.specs.declared.pages.LivePage.{LivePage}
 use Rattle.hb_space.specs.Boxes.{Area}
 use Rattle.hb_space.specs.declared.records.Record.{Record}
 use Rattle.hb_set.specs.declared.commands.Command.{Command}
-use Rattle.hb_set.specs.declared.commands.Command.TheVariants.{Insert, Delete, Lookup, Search}
+use Rattle.hb_set.specs.declared.commands.Command.TheVariants.{Insert, Delete, Change, Lookup, Search}
 use Rattle.hb_latch.specs.declared.modes.Mode.{Mode}
 use Rattle.hb_latch.specs.declared.modes.Mode.TheVariants.{Shared, Update, Exclusive}
 use Rattle.hb_activity.specs.declared.jobs.Job.{Job}
@@ -18,6 +18,7 @@ use Rattle.hb_activity.specs.declared.activities.Activity.TheVariants.{SessionWa
 abbrev pub may_change : Command → Bool
 may_change (Insert added) = true
 may_change (Delete point) = true
+may_change (Change changed) = true
 may_change (Lookup point) = false
 may_change (Search area) = false
 
@@ -25,6 +26,7 @@ may_change (Search area) = false
 abbrev pub goal_of : Command → List Area → Option (List ℕ)
 goal_of (Insert added) rest = Some added.key
 goal_of (Delete point) rest = Some point
+goal_of (Change changed) rest = Some changed.key
 goal_of (Lookup point) rest = Some point
 goal_of (Search area) rest = option_map (λ a. a.lo) (slice_get rest (length rest - 1))
 

@@ -93,7 +93,7 @@ pub record HasLeafAt (page : LivePage) (p : List ℕ) : Type 0 where
 abbrev pub CanLook : Activity → Option LivePage → Type 0
 CanLook activity page = IfSome page (λ page. IfSome (looked_at activity) (HasLeafAt page))
 
--- A walk of an insert or a delete may, where the page that it wants is one of records. Else the activity says it.
+-- A walk of an insert, a delete or a change may, where the page that it wants is one of records. Else the activity says it.
 abbrev pub may_commit : Activity → Meta → Option LivePage → Bool
 may_commit (SessionWalk line held rest found) meta page = may_change line.command && option_map_or (λ wanted. wanted.level == 0) (wanted_of (SessionWalk line held rest found) meta page) false
 may_commit (SessionSplit line held) meta page = true

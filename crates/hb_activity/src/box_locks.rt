@@ -6,13 +6,13 @@ use hb_boxlock::BoxLock;
 use hb_set::Command;
 use hb_space::Area;
 
-/// The lock that a session wants for the command: an insert or a delete for its point alone, a
-/// lookup its point and a search its box, shared.
+/// The lock that a session wants for the command: an insert, a delete or a change for its point alone,
+/// a lookup its point and a search its box, shared.
 pub fn box_lock_for(command: &Command) -> BoxLock
     ensures { result ≡ lock_of_command command.now }
 {
     match command {
-        Command::Insert(record) => alone(Area::of_point(&record.key)),
+        Command::Insert(record) | Command::Change(record) => alone(Area::of_point(&record.key)),
         Command::Delete(point) => alone(Area::of_point(point)),
         Command::Lookup(point) => shared(Area::of_point(point)),
         Command::Search(area) => shared(area.copy()),

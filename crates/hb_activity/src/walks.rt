@@ -10,7 +10,7 @@ use hb_space::{Areas, Point};
 impl Activity {
     ghost use Rattle.hb_activity.specs.Walks.{walk_point, walk_held};
 
-    /// The point to which a walk leads: of an insert, delete or lookup its own, of a search the
+    /// The point to which a walk leads: of an insert, delete, change or lookup its own, of a search the
     /// lower corner of the last box that remains, of a job its own. `None` where nothing walks,
     /// or no box remains.
     pub fn walk_point(&self) -> Option<&Point>
@@ -58,7 +58,7 @@ pub(crate) fn may_change(command: &Command) -> bool
     ensures { result ≡ may_change command.now }
 {
     match command {
-        Command::Insert(_) | Command::Delete(_) => true,
+        Command::Insert(_) | Command::Delete(_) | Command::Change(_) => true,
         Command::Lookup(_) | Command::Search(_) => false,
     }
 }
@@ -79,7 +79,7 @@ fn goal_of<'a>(command: &'a Command, rest: &'a Areas) -> Option<&'a Point>
     ensures { option_copied result ≡ goal_of command.now rest.now }
 {
     match command {
-        Command::Insert(record) => Some(&record.key),
+        Command::Insert(record) | Command::Change(record) => Some(&record.key),
         Command::Delete(point) | Command::Lookup(point) => Some(point),
         Command::Search(_) => match rest.as_slice().last() {
             Some(area) => Some(area.lo()),

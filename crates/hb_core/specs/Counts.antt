@@ -15,6 +15,7 @@ no_counts = record { grown = 0; posted = 0; split = 0; merged = 0 }
 abbrev pub counted : ℕ → Op → TidyCounts → TidyCounts
 counted actor (ops.Put page rec) c = c
 counted actor (ops.Del page point) c = c
+counted actor (ops.Change page rec) c = c
 counted actor (ops.Extract source fresh path cuts free_after) c = if actor == POSTER then record c { split = next_count c.split } else c
 counted actor (ops.Post parent way inner area) c = record c { posted = next_count c.posted }
 counted actor (ops.Merge parent keep gone) c = record c { merged = next_count c.merged }

@@ -39,7 +39,7 @@ impl TidyCounts {
         ensures { result ≡ counted actor op.now self }
     {
         match op {
-            Op::Put { .. } | Op::Del { .. } => self,
+            Op::Put { .. } | Op::Del { .. } | Op::Change { .. } => self,
             Op::Extract { .. } => self.with_split(actor),
             Op::Post { .. } => self.with_posting(),
             Op::Merge { .. } => self.with_merge(),

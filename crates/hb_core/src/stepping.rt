@@ -266,6 +266,7 @@ fn copy_of_command(command: &Command) -> Command
     match command {
         Command::Insert(record) => Command::Insert(Record::copy(record)),
         Command::Delete(point) => Command::Delete(point.copy()),
+        Command::Change(record) => Command::Change(record.copy()),
         Command::Lookup(point) => Command::Lookup(point.copy()),
         Command::Search(area) => Command::Search(area.copy()),
     }

@@ -9,7 +9,7 @@ use Rattle.hb_frag.specs.Grammar.{point_bytes, record_bytes}
 use Rattle.hb_frag.specs.declared.pages.Page.{Page}
 use Rattle.hb_ops.specs.declared.leaf_cuts.LeafCut.{LeafCut}
 use Rattle.hb_ops.specs.declared.operations.Op.{Op}
-use Rattle.hb_ops.specs.declared.operations.Op.TheVariants.{Put, Del, Extract, Post, Merge, Grow}
+use Rattle.hb_ops.specs.declared.operations.Op.TheVariants.{Put, Del, Change, Extract, Post, Merge, Grow}
 use Rattle.hb_log_codec.specs.Groups.{FitsGroup, FitsPageImage, FitsOp, Logged, cuts_bytes, group_bytes, page_image_bytes, leaf_cut_bytes, op_bytes, page_bytes, path_bytes, side_byte}
 use Rattle.hb_log_codec.proofs.GroupLaws.{length_page}
 use Rattle.hb_lemmas.proofs.Numbers.{length_big_endian}
@@ -32,6 +32,9 @@ length_cuts (cut ∷ rest) = omega (arith, length-append (leaf_cut_bytes cut) (f
 
 length_op : (k : ℕ) (op : Op) → k ≤ KMAX → FitsOp k op → length (op_bytes op) ≤ 2820
 length_op k (Put page rec) small h =
+    let few = h.1.body.few in
+    omega (arith, small, h.1.attributes, few, length-append (big_endian 4 page) (record_bytes rec), length_big_endian 4 page, length-append (point_bytes rec.key) (length rec.body ∷ rec.body), length_point rec.key)
+length_op k (Change page rec) small h =
     let few = h.1.body.few in
     omega (arith, small, h.1.attributes, few, length-append (big_endian 4 page) (record_bytes rec), length_big_endian 4 page, length-append (point_bytes rec.key) (length rec.body ∷ rec.body), length_point rec.key)
 length_op k (Del page point) small h =

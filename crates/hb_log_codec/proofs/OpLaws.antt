@@ -5,12 +5,12 @@ use Rattle.hb_space.specs.Boxes.{IsArea}
 use Rattle.hb_space.specs.declared.form.TheConstants.{KMAX}
 use Rattle.hb_frag.specs.Grammar.{FitsRecord, point_bytes, record_bytes}
 use Rattle.hb_ops.specs.declared.operations.Op.{Op}
-use Rattle.hb_ops.specs.declared.operations.Op.TheVariants.{Put, Del, Extract, Post, Merge, Grow}
+use Rattle.hb_ops.specs.declared.operations.Op.TheVariants.{Put, Del, Change, Extract, Post, Merge, Grow}
 use Rattle.hb_page_codec.specs.Exact.{AreBytes, IsExact}
 use Rattle.hb_page_codec.specs.Reading.{number_at}
 use Rattle.hb_page_codec.specs.ReadingFields.{area_at, point_at, record_at}
 use Rattle.hb_log_codec.specs.Groups.{FitsOp, cuts_bytes, op_bytes, path_bytes}
-use Rattle.hb_log_codec.specs.Fields.{cuts_at, del_at, extract_at, grow_at, merge_at, op_at, path_at, post_at, put_at}
+use Rattle.hb_log_codec.specs.Fields.{change_at, cuts_at, del_at, extract_at, grow_at, merge_at, op_at, path_at, post_at, put_at}
 use Rattle.hb_log_codec.specs.ExactFields.{ExactFields}
 use Rattle.hb_log_codec.proofs.FieldLaws.{taken}
 use Rattle.hb_log_codec.proofs.PathLaws.{FewCuts, cuts_exact, path_exact}
@@ -46,6 +46,17 @@ module _ (f : ExactFields) where
       let made : Op × List ℕ = (Put a.0.0 b.0.0, b.0.1) in
       let both = Takes-byte 1 rest _ b.0.1 (Takes-then rest (big_endian 4 a.0.0) a.0.1 (record_bytes b.0.0) b.0.1 page.0 rec.0) in
       subst (TakesOp k 1 rest) (same_Some made x b.2) (both.parts, (page.1, rec.1))
+
+  change_takes : (k : ℕ) (rest : List ℕ) (x : Op × List ℕ) → AreBytes rest → change_at k rest ≡ Some x → TakesOp k 7 rest x
+  unfolding change_at
+  change_takes k rest x fits e =
+      let a = bind_some (number_at 4 rest) (λ page. record_at k page.1 >>= λ rec. Some (Change page.0 rec.0, rec.1)) x e in
+      let b = bind_some (record_at k a.0.1) (λ rec. Some (Change a.0.0 rec.0, rec.1)) x a.2 in
+      let page = number rest a.0 fits a.1 in
+      let rec = taken (record_at k) record_bytes (FitsRecord k) (f.record_of k) a.0.1 b.0 page.0.rest_fits b.1 in
+      let made : Op × List ℕ = (Change a.0.0 b.0.0, b.0.1) in
+      let both = Takes-byte 7 rest _ b.0.1 (Takes-then rest (big_endian 4 a.0.0) a.0.1 (record_bytes b.0.0) b.0.1 page.0 rec.0) in
+      subst (TakesOp k 7 rest) (same_Some made x b.2) (both.parts, (page.1, rec.1))
 
   del_takes : (k : ℕ) (rest : List ℕ) (x : Op × List ℕ) → AreBytes rest → del_at k rest ≡ Some x → TakesOp k 2 rest x
   unfolding del_at
@@ -134,13 +145,17 @@ module _ (f : ExactFields) where
   op_takes k some few (suc (suc (suc (suc zero))) ∷ rest) x fits e = post_takes k rest x some few (AreBytes-rest 4 rest fits) e
   op_takes k some few (suc (suc (suc (suc (suc zero)))) ∷ rest) x fits e = merge_takes k rest x (AreBytes-rest 5 rest fits) e
   op_takes k some few (suc (suc (suc (suc (suc (suc zero))))) ∷ rest) x fits e = grow_takes k rest x (AreBytes-rest 6 rest fits) e
-  op_takes k some few (suc (suc (suc (suc (suc (suc (suc b)))))) ∷ rest) x fits e = absurd cc
+  op_takes k some few (suc (suc (suc (suc (suc (suc (suc zero)))))) ∷ rest) x fits e = change_takes k rest x (AreBytes-rest 7 rest fits) e
+  op_takes k some few (suc (suc (suc (suc (suc (suc (suc (suc b))))))) ∷ rest) x fits e = absurd cc
 
   -- the numbers, paths and cuts in a row, each in front of what follows
   pub op_again : (k : ℕ) (op : Op) (rest : List ℕ) → FitsOp k op → op_at k (op_bytes op ++ rest) ≡ Some (op, rest)
-  unfolding put_at del_at extract_at post_at merge_at grow_at
+  unfolding put_at del_at change_at extract_at post_at merge_at grow_at
   op_again k (Put page rec) rest fits =
       ap (λ (xs : List ℕ). op_at k (1 ∷ xs)) (append_assoc (big_endian 4 page) (record_bytes rec) rest)
+      ∙ rw (f.number_4.again page (record_bytes rec ++ rest) fits.0, (f.record_of k).again rec rest fits.1) refl
+  op_again k (Change page rec) rest fits =
+      ap (λ (xs : List ℕ). op_at k (7 ∷ xs)) (append_assoc (big_endian 4 page) (record_bytes rec) rest)
       ∙ rw (f.number_4.again page (record_bytes rec ++ rest) fits.0, (f.record_of k).again rec rest fits.1) refl
   op_again k (Del page point) rest fits =
       ap (λ (xs : List ℕ). op_at k (2 ∷ xs)) (append_assoc (big_endian 4 page) (point_bytes point) rest)

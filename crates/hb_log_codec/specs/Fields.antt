@@ -4,7 +4,7 @@ use Rattle.hb_frag.specs.declared.paths.Side.{Side}
 use Rattle.hb_frag.specs.declared.paths.Side.TheVariants.{Left, Right}
 use Rattle.hb_ops.specs.declared.leaf_cuts.LeafCut.{LeafCut}
 use Rattle.hb_ops.specs.declared.operations.Op.{Op}
-use Rattle.hb_ops.specs.declared.operations.Op.TheVariants.{Put, Del, Extract, Post, Merge, Grow}
+use Rattle.hb_ops.specs.declared.operations.Op.TheVariants.{Put, Del, Change, Extract, Post, Merge, Grow}
 use Rattle.hb_page_codec.specs.Reading.{byte_at, many_at, number_at}
 use Rattle.hb_page_codec.specs.ReadingFields.{area_at, point_at, record_at}
 use Rattle.hb_lemmas.specs.Options.{◌>>=◌}
@@ -47,6 +47,12 @@ del_at k bytes = do
   point ← point_at k page.1
   Some (Del page.0 point.0, point.1)
 
+unfoldable pub change_at : ℕ → List ℕ → Option (Op × List ℕ)
+change_at k bytes = do
+  page ← number_at 4 bytes
+  rec ← record_at k page.1
+  Some (Change page.0 rec.0, rec.1)
+
 unfoldable pub extract_at : List ℕ → Option (Op × List ℕ)
 extract_at bytes = do
   source ← number_at 4 bytes
@@ -87,4 +93,5 @@ op_at k (suc (suc (suc zero)) ∷ rest) = extract_at rest
 op_at k (suc (suc (suc (suc zero))) ∷ rest) = post_at k rest
 op_at k (suc (suc (suc (suc (suc zero)))) ∷ rest) = merge_at rest
 op_at k (suc (suc (suc (suc (suc (suc zero))))) ∷ rest) = grow_at rest
-op_at k (suc (suc (suc (suc (suc (suc (suc b)))))) ∷ rest) = None
+op_at k (suc (suc (suc (suc (suc (suc (suc zero)))))) ∷ rest) = change_at k rest
+op_at k (suc (suc (suc (suc (suc (suc (suc (suc b))))))) ∷ rest) = None

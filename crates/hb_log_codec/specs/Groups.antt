@@ -9,7 +9,7 @@ use Rattle.hb_frag.specs.declared.paths.Side.{Side}
 use Rattle.hb_frag.specs.declared.paths.Side.TheVariants.{Left, Right}
 use Rattle.hb_ops.specs.declared.leaf_cuts.LeafCut.{LeafCut}
 use Rattle.hb_ops.specs.declared.operations.Op.{Op}
-use Rattle.hb_ops.specs.declared.operations.Op.TheVariants.{Put, Del, Extract, Post, Merge, Grow}
+use Rattle.hb_ops.specs.declared.operations.Op.TheVariants.{Put, Del, Change, Extract, Post, Merge, Grow}
 
 -- page images stand by the numbers of their pages
 pub record Logged : Type 0 where
@@ -46,6 +46,7 @@ op_bytes (Extract source fresh path cuts free_after) = 3 ∷ big_endian 4 source
 op_bytes (Post parent at inner area) = 4 ∷ big_endian 4 parent ++ path_bytes at ++ big_endian 4 inner ++ point_bytes area.lo ++ point_bytes area.hi
 op_bytes (Merge parent keep gone) = 5 ∷ big_endian 4 parent ++ big_endian 4 keep ++ big_endian 4 gone
 op_bytes (Grow fresh free_after) = 6 ∷ big_endian 4 fresh ++ big_endian 4 free_after
+op_bytes (Change page rec) = 7 ∷ big_endian 4 page ++ record_bytes rec
 
 -- a group: the count of its page images, the page images, the operation
 abbrev pub group_bytes : Logged → List ℕ
@@ -78,6 +79,7 @@ pub record FitsPosting (k parent : ℕ) (at : List Side) (inner : ℕ) (area : A
 abbrev pub FitsOp : ℕ → Op → Type 0
 FitsOp k (Put page rec) = (page < 2 ^ 32) × FitsRecord k rec
 FitsOp k (Del page point) = (page < 2 ^ 32) × (length point ≡ k) × All (λ x. x < 2 ^ 64) point
+FitsOp k (Change page rec) = (page < 2 ^ 32) × FitsRecord k rec
 FitsOp k (Extract source fresh path cuts free_after) = FitsSplit source fresh free_after path cuts
 FitsOp k (Post parent at inner area) = FitsPosting k parent at inner area
 FitsOp k (Merge parent keep gone) = (parent < 2 ^ 32) × (keep < 2 ^ 32) × (gone < 2 ^ 32)
@@ -87,6 +89,7 @@ FitsOp k (Grow fresh free_after) = (fresh < 2 ^ 32) × (free_after < 2 ^ 32)
 abbrev pub HasShortPaths : Op → Type 0
 HasShortPaths (Put page rec) = Unit {0}
 HasShortPaths (Del page point) = Unit {0}
+HasShortPaths (Change page rec) = Unit {0}
 HasShortPaths (Extract source fresh path cuts free_after) = (length path < 2 ^ 8) × (length cuts < 2 ^ 8)
 HasShortPaths (Post parent at inner area) = length at < 2 ^ 8
 HasShortPaths (Merge parent keep gone) = Unit {0}

@@ -1,5 +1,5 @@
 //! Operations, from the front of bytes.
-ghost use Rattle.hb_log_codec.specs.Fields.{side_at, path_at, leaf_cut_at, cuts_at, put_at, del_at, extract_at, post_at, merge_at, grow_at, op_at};
+ghost use Rattle.hb_log_codec.specs.Fields.{side_at, path_at, leaf_cut_at, cuts_at, put_at, del_at, change_at, extract_at, post_at, merge_at, grow_at, op_at};
 ghost use Rattle.hb_log_codec.specs.Reading.{GivesOrStops};
 ghost use Rattle.hb_page_codec.specs.Reading.{byte_at, many_at};
 
@@ -119,6 +119,16 @@ fn del_of(k: Attributes, bytes: &[u8]) -> Result<(Op, &[u8]), GroupStop>
     Ok((Op::Del { page, point }, rest))
 }
 
+/// A change, behind its tag.
+#[tactic(auto, unfolding(crate::specs::Fields::change_at))]
+fn change_of(k: Attributes, bytes: &[u8]) -> Result<(Op, &[u8]), GroupStop>
+    ensures { GivesOrStops (λ x. (x.0, x.1.now)) result (change_at k.number bytes.now) }
+{
+    let (page, rest) = u32_of(bytes).ok_or(GroupStop::Bad)?;
+    let (rec, rest) = record_of(k, rest).ok_or(GroupStop::Bad)?;
+    Ok((Op::Change { page, rec }, rest))
+}
+
 /// A split, behind its tag.
 #[tactic(auto, unfolding(crate::specs::Fields::extract_at))]
 fn extract_of(alloc: Global, bytes: &[u8]) -> Result<(Op, &[u8]), GroupStop>
@@ -189,6 +199,7 @@ pub(crate) fn op_of(alloc: Global, k: Attributes, bytes: &[u8]) -> Result<(Op, &
         [4, rest @ ..] => post_of(alloc, k, rest),
         [5, rest @ ..] => merge_of(rest),
         [6, rest @ ..] => grow_of(rest),
+        [7, rest @ ..] => change_of(k, rest),
         _ => Err(GroupStop::Bad),
     }
 }

@@ -15,6 +15,7 @@
 //! | posting | 04, parent (4), path length (1), path, inner (4), lower and upper values (8 each) |
 //! | merge | 05, parent (4), page to keep (4), page to go (4) |
 //! | growth | 06, fresh (4), free head afterwards (4) |
+//! | change | 07, page (4), record |
 //!
 //! A decoder can't trust its bytes: each field is tested where it is read. Page numbers may be any.
 //!
@@ -31,5 +32,5 @@ mod writing;
 
 pub use groups::Group;
 pub use reading::{GroupsError, decode_all};
-pub use record_groups::{PART, encode_del, encode_front, encode_put};
+pub use record_groups::{PART, encode_edit, encode_front};
 pub use writing::{encode, encode_op, encode_page_image};

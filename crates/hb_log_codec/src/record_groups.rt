@@ -1,17 +1,18 @@
-//! Parts of the group of a put or a delete, in fixed room: they take no memory.
-ghost use Rattle.std.specs.Prelude.{◌≡◌, ◌+◌, ◌*◌, ◌≤◌, ◌++◌, length};
+//! Parts of the group of an operation that edits one record, in fixed room: they take no memory.
+ghost use Rattle.std.specs.Prelude.{◌≡◌, ◌+◌, ◌*◌, ◌≤◌, ◌∷◌, ◌++◌, IsSome, length};
 ghost use Rattle.hb_log_codec.specs.declared.record_groups.TheConstants.{PART};
 ghost use Rattle.hb_lemmas.specs.Numbers.{big_endian};
 ghost use Rattle.hb_space.specs.declared.form.TheConstants.{KMAX};
-ghost use Rattle.hb_frag.specs.Grammar.{point_bytes};
-ghost use Rattle.hb_ops.specs.declared.operations.Op.TheVariants as ops;
+ghost use Rattle.hb_frag.specs.Grammar.{point_bytes, record_bytes};
+ghost use Rattle.hb_ops.specs.Operations.{edit_of};
 ghost use Rattle.hb_log_codec.specs.Groups.{op_bytes};
 ghost use Rattle.hb_log_codec.specs.RecordGroups.{front_bytes};
 
 use arrayvec::ArrayVec;
+use hb_ops::Op;
 use hb_outside::{give_u32, give_u64};
 use hb_space::form::{BMAX, KMAX};
-use hb_space::{Body, Point};
+use hb_space::{Point, Record};
 
 /// Room for a part: no operation on records has more bytes than a put, which has a tag, a page, a point, and a body
 /// behind its length.
@@ -32,28 +33,39 @@ pub fn encode_front(image: Option<u32>) -> ArrayVec<u8, PART>
     front
 }
 
-/// The bytes of a put.
-pub fn encode_put(page: u32, point: &Point, body: &Body) -> ArrayVec<u8, PART>
-    ensures { result.items ≡ op_bytes (ops.Put page (record { key = point.now; body = body.now })) }
+/// The bytes of an operation that edits one record.
+pub fn encode_edit(op: &Op) -> ArrayVec<u8, PART>
+    requires { IsSome (edit_of op.now) }
+    ensures { result.items ≡ op_bytes op.now }
+{
+    match op {
+        Op::Put { page, rec } => with_record(1, *page, rec),
+        Op::Del { page, point } => with_point(2, *page, point),
+        Op::Change { page, rec } => with_record(7, *page, rec),
+        _ => unreachable!(),
+    }
+}
+
+/// A tag, a page and a point.
+fn with_point(tag: u8, page: u32, point: &Point) -> ArrayVec<u8, PART>
+    ensures bytes { result.items ≡ tag ∷ big_endian 4 page ++ point_bytes point.now }
+    ensures room { length result.items ≤ 5 + 8 * KMAX }
 {
     let mut op = ArrayVec::new();
-    op.push(1);
+    op.push(tag);
     add_u32(&mut op, page);
     add_point(&mut op, point);
-    let body = body.bytes();
-    op.push(body.len() as u8);
-    add(&mut op, body);
     op
 }
 
-/// The bytes of a delete.
-pub fn encode_del(page: u32, point: &Point) -> ArrayVec<u8, PART>
-    ensures { result.items ≡ op_bytes (ops.Del page point.now) }
+/// The same with a record.
+fn with_record(tag: u8, page: u32, rec: &Record) -> ArrayVec<u8, PART>
+    ensures { result.items ≡ tag ∷ big_endian 4 page ++ record_bytes rec.now }
 {
-    let mut op = ArrayVec::new();
-    op.push(2);
-    add_u32(&mut op, page);
-    add_point(&mut op, point);
+    let mut op = with_point(tag, page, &rec.key);
+    let body = rec.body.bytes();
+    op.push(body.len() as u8);
+    add(&mut op, body);
     op
 }
 

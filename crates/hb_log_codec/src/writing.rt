@@ -66,6 +66,11 @@ pub fn encode_op(op: &Op, into: &mut Vec<u8>) -> Result<(), NoMemory>
             append_u32(into, *page)?;
             append_record(into, rec)
         }
+        Op::Change { page, rec } => {
+            into.push(7)?;
+            append_u32(into, *page)?;
+            append_record(into, rec)
+        }
         Op::Del { page, point } => {
             into.push(2)?;
             append_u32(into, *page)?;

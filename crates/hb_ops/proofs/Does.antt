@@ -1,5 +1,5 @@
 -- What a change answers, by cases of the operation and of what it is given.
-use Rattle.std.proofs.Common.{◌≡◌, ℕ, List, [], ◌∷◌, Option, None, Ok, Err, refl, sym, ap, subst, ◌∙◌}
+use Rattle.std.proofs.Common.{◌≡◌, ℕ, List, [], ◌∷◌, Option, Some, None, Ok, Err, refl, sym, ap, subst, ◌∙◌}
 use Rattle.std.specs.Result.{IfOk, IfErr, IsErrOf}
 use Rattle.std.specs.declared.result.Result.TheVariants.{the_data as Result}
 use denote.Bor.{Bor}
@@ -11,8 +11,11 @@ use Rattle.hb_ops.specs.declared.changes.Changed.{Changed}
 use Rattle.hb_ops.specs.declared.changes.ChangeError.{ChangeError}
 use Rattle.hb_ops.specs.declared.changes.ChangeError.TheVariants.{Unfit, NoMemory}
 use Rattle.hb_ops.specs.declared.operations.Op.{Op}
-use Rattle.hb_ops.specs.Given.{given}
-use Rattle.hb_ops.specs.Operations.{Change, IsAllowedOn, change_of}
+use Rattle.hb_space.specs.Edits.{Edit}
+use Rattle.hb_ops.specs.Given.{FitsGiven, MakesEdited, given}
+use Rattle.hb_ops.specs.Recording.{FitsEdit}
+use Rattle.hb_ops.proofs.Facts.EditOps.{IsEdit}
+use Rattle.hb_ops.specs.Operations.{FileChange, IsAllowedOn, change_of}
 
 -- the clauses of a change
 pub record Does (result : Result Changed ChangeError) (op : Op) (meta : Meta) (first second third : Option LivePage) : Type 0 where
@@ -38,7 +41,7 @@ failed {T} result error op meta first second third e h k =
     other : (x : ChangeError) → IsErrOf {T = Changed} {E = ChangeError} (Err error) x → IsErrOf {T = T} {E = ChangeError} (Err error) x
     other x w = let same : error ≡ x = cc in ap (λ (y : ChangeError). Err y) same
 
-change_is : (m m' : Meta) (ps qs : List (ℕ × Page)) (w : Change) → m ≡ m' → ps ≡ qs → record { meta = m'; pages = qs } ≡ w → record { meta = m; pages = ps } ≡ w
+change_is : (m m' : Meta) (ps qs : List (ℕ × Page)) (w : FileChange) → m ≡ m' → ps ≡ qs → record { meta = m'; pages = qs } ≡ w → record { meta = m; pages = ps } ≡ w
 change_is m m' ps qs w e f h = (λ i. record { meta = e i; pages = f i }) ∙ h
 
 -- where one page changes
@@ -65,3 +68,31 @@ one_tried op meta first second third id made made' (Err e) does allowed effect u
     let U : Result LivePage ChangeError → Type 0 = λ r. IsErrOf r Unfit → ¬ (IsAllowedOn op meta first second third) in
     let M : Result LivePage ChangeError → Type 0 = λ r. IsErrOf r NoMemory → IsAllowedOn op meta first second third in
     failed (Err e) e op meta first second third refl (subst U error unfit) (subst M error memory)
+
+-- where one record is edited
+pub edit_does : (op : Op) (meta : Meta) (first second third : Option LivePage) (id : ℕ) (e : Edit) (result : Result Changed ChangeError) → IsEdit op id e
+    → IfOk result (λ c. FitsGiven meta first e) → IfOk result (λ (c : Changed). MakesEdited meta id first e (record { meta = c.meta; pages = c.pages.items }))
+    → (IsErrOf result Unfit → ¬ (FitsGiven meta first e)) → (IsErrOf result NoMemory → FitsGiven meta first e)
+    → Does result op meta first second third
+edit_does op meta None second third id e (Ok changed) edit allowed effect unfit memory = absurd allowed
+edit_does op meta None second third id e (Err error) edit allowed effect unfit memory = record {
+  allowed = tt;
+  effect = tt;
+  unfit = λ is may. let on = edit.allowed meta None second third may in let no : ⊥ = cc (on.1) in no;
+  memory = λ is. absurd (memory is);
+}
+edit_does op meta (Some page) second third id e (Ok changed) edit allowed effect unfit memory = record {
+  allowed = edit.fits meta page second third allowed;
+  effect = effect ∙ sym (edit.makes meta page second third);
+  unfit = λ is. absurd (cc);
+  memory = λ is. absurd (cc);
+}
+edit_does op meta (Some page) second third id e (Err error) edit allowed effect unfit memory = record {
+  allowed = tt;
+  effect = tt;
+  unfit = λ is may. let on = edit.allowed meta (Some page) second third may in unfit is (subst (λ (p : LivePage). FitsEdit meta p e) (sym (page_is page on.0 on.1)) on.2);
+  memory = λ is. edit.fits meta page second third (memory is);
+}
+  where
+    page_is : (a b : LivePage) → ◌≡◌ {A = Option LivePage} (Some a) (Some b) → a ≡ b
+    page_is a b is = cc is

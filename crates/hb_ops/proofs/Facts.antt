@@ -25,3 +25,4 @@ pub mod MadeLeaves
 pub mod MergeMade
 pub mod WellMade
 pub mod JoinedParts
+pub mod EditOps

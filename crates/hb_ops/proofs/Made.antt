@@ -14,19 +14,20 @@ use Rattle.hb_frag.specs.Paths.{part_at}
 use Rattle.hb_frag.specs.Rules.{BelongsAt, IsInOrder}
 use Rattle.hb_layout.specs.declared.meta.Meta.{Meta}
 use Rattle.hb_ops.specs.declared.leaf_cuts.LeafCut.{LeafCut}
-use Rattle.hb_ops.specs.declared.operations.Op.TheVariants.{Put, Del, Extract, Post, Merge, Grow}
+use Rattle.hb_ops.specs.declared.operations.Op.TheVariants.{Put, Del, Change, Extract, Post, Merge, Grow}
 use Rattle.hb_ops.specs.Allocating.{allocated, new_root, raised}
 use Rattle.hb_ops.specs.Extracting.{FitsExtract, fresh_page, source_page, split_pages}
 use Rattle.hb_ops.specs.LawsOfContents.{ChangesMakeWell, IsWellIn}
 use Rattle.hb_ops.specs.Merging.{FitsMerge, kept_page, parent_page, released}
 use Rattle.hb_ops.specs.Posting.{post_page}
-use Rattle.hb_ops.specs.Recording.{del_page, put_page}
+use Rattle.hb_ops.specs.Recording.{edited_page}
+use Rattle.hb_space.specs.Edits.{adding, changing, taking_away}
 use Rattle.hb_ops.specs.Sound.{FitsFile}
 use Rattle.hb_ops.proofs.Facts.StemLaws.{PartLaws}
 use Rattle.hb_ops.proofs.Facts.PartedPageLaws.{fresh_made, source_made}
 use Rattle.hb_ops.proofs.Facts.MergeMade.{kept_made, parent_made}
 use Rattle.hb_ops.proofs.PostMade.{JoinLaws, post_made}
-use Rattle.hb_ops.proofs.Remade.{put_made, del_made}
+use Rattle.hb_ops.proofs.Remade.{edit_made}
 
 abbrev Well : Meta → ℕ × Page → Type 0
 Well meta c = IsWellIn meta c.1
@@ -66,10 +67,12 @@ root_made meta fresh free_after room level = record {
 
 -- each kind
 pub changes_make_well : PartLaws → JoinLaws → ChangesMakeWell
-changes_make_well laws joins (Put id rec) meta (Some page) second third room level has h boxes = one_well meta id (put_page rec page) (put_made meta page rec h)
+changes_make_well laws joins (Put id rec) meta (Some page) second third room level has h boxes = one_well meta id (edited_page (adding rec) page) (edit_made meta page (adding rec) h)
 changes_make_well laws joins (Put id rec) meta None second third room level has h boxes = absurd h
-changes_make_well laws joins (Del id point) meta (Some page) second third room level has h boxes = one_well meta id (del_page point page) (del_made meta page point h)
+changes_make_well laws joins (Del id point) meta (Some page) second third room level has h boxes = one_well meta id (edited_page (taking_away point) page) (edit_made meta page (taking_away point) h)
 changes_make_well laws joins (Del id point) meta None second third room level has h boxes = absurd h
+changes_make_well laws joins (Change id rec) meta (Some page) second third room level has h boxes = one_well meta id (edited_page (changing rec) page) (edit_made meta page (changing rec) h)
+changes_make_well laws joins (Change id rec) meta None second third room level has h boxes = absurd h
 changes_make_well laws joins (Extract source fresh path cuts free_after) meta (Some page) second third room level has h boxes = split_well laws meta page source fresh path cuts free_after h
 changes_make_well laws joins (Extract source fresh path cuts free_after) meta None second third room level has h boxes = absurd h
 changes_make_well laws joins (Post parent at inner area) meta (Some page) second third room level has h boxes = one_well meta parent (post_page at inner area page) (post_made joins meta page at inner area has.1 h)

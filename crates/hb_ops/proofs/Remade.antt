@@ -1,9 +1,10 @@
 -- A page whose leaf at a point has its records changed: what stays, and when it is well made again.
-use Rattle.std.proofs.Common.{◌≡◌, ℕ, ◌<◌, ◌≤◌, Bool, true, false, cond, List, [], ◌∷◌, ◌++◌, length, get_or, filter, All, AllPairs, Contains, Some, refl, sym, ap, subst, ◌∙◌, arith, inl, inr, eq-eqb}
+use Rattle.std.proofs.Common.{◌≡◌, ℕ, ◌<◌, ◌≤◌, Bool, true, false, cond, List, [], ◌∷◌, ◌++◌, length, get_or, filter, All, AllPairs, Contains, Option, Some, None, refl, sym, ap, subst, ◌∙◌, arith, inl, inr, eq-eqb}
 use Rattle.std.specs.Ordering.{is_gt, is_lt, is_ne, ordering_reverse}
 use Rattle.std.specs.declared.cmp.Ordering.{Ordering}
 use Rattle.std.specs.declared.cmp.Ordering.TheVariants.{Less, Equal, Greater}
-use Rattle.std.proofs.lemmas.Bool.{false≢true}
+use Rattle.std.proofs.lemmas.Bool.{cases_Bool, false≢true}
+use Rattle.hb_space.specs.Edits.{Edit}
 use Rattle.std.proofs.lemmas.Cmp.{nat_list_cmp_total}
 use Rattle.std.proofs.lemmas.List.Elements.{All-append, All-cons, All-filter, All-head, All-tail, Contains-append_cases, Contains-append_left, Contains-append_right, filter_passes}
 use Rattle.std.proofs.lemmas.List.Kept.{AllPairs-cons, AllPairs-filter}
@@ -20,15 +21,14 @@ use Rattle.hb_frag.specs.Rules.{AreAlike, BelongsAt, IsInOrder, IsNormal, IsSibl
 use Rattle.hb_frag.proofs.Facts.NamesListed.{siblings-append}
 use Rattle.hb_layout.specs.declared.meta.Meta.{Meta}
 use Rattle.hb_ops.specs.Sound.{FitsFile}
-use Rattle.hb_ops.specs.Recording.{FitsDel, FitsPut, del_page, joined, on_records, page_with, put_page, without}
+use Rattle.hb_ops.specs.Recording.{FitsEdit, edited_page, joined, on_records, page_with, with_body, without}
 use Rattle.hb_lemmas.proofs.Lists.{All-parts, only_one}
-use Rattle.hb_ops.proofs.Facts.Opened.{weight_changed}
+use Rattle.hb_ops.proofs.Facts.Opened.{edits_add_no_weight}
 use Rattle.hb_ops.proofs.Facts.Tips.{parted}
 use Rattle.hb_ops.proofs.Facts.PlacedLaws.{placed}
 use Rattle.hb_ops.proofs.Facts.CutShapeLaws.{before_cut}
 use Rattle.hb_lemmas.proofs.Orderings.{less_so}
 use Rattle.hb_lemmas.proofs.Pairs.{pairs_append}
-use Rattle.std.proofs.lemmas.List.Sums.{length-filter, count_by-le-length}
 
 module _ (p : List ℕ) (change : List Record → List Record) where
   -- the tree with the change
@@ -198,19 +198,18 @@ del_keeps point area records inside h =
       rising = AllPairs-filter Precedes stays records h.rising;
     }
 
--- what a put and a delete make of a page is well made
-pub put_made : (meta : Meta) (page : LivePage) (rec : Record) → FitsPut meta page rec → FitsFile meta (put_page rec page)
-put_made meta page rec fits =
-    let capacity : capacity_of page.level meta.dcap meta.icap ≡ meta.dcap = ap (λ (b : Bool). cond b meta.dcap meta.icap) (eq-eqb page.level 0 fits.level) in
-    let room = fits.room in
-    made_again meta page rec.key fits.absent.records fits.absent.area (joined rec) fits.made fits.absent.leaf (omega arith) (λ area records inside h. put_keeps rec area records inside h)
+-- so does each edit
+edit_keeps : (p : List ℕ) (body : Option (List ℕ)) (area : Area) (records : List Record) → Holds area p → IsInOrder (record { leaf = Records records; area = area }) → IsInOrder (record { leaf = Records (with_body p body records); area = area })
+edit_keeps p (Some body) area records inside h = put_keeps (record { key = p; body = body }) area records inside h
+edit_keeps p None area records inside h = del_keeps p area records inside h
 
-pub del_made : (meta : Meta) (page : LivePage) (point : List ℕ) → FitsDel meta page point → FitsFile meta (del_page point page)
-del_made meta page point fits =
-    let records = fits.there.records in
-    let changed = weight_changed page point records fits.there.area (without point) fits.made.well_cut fits.there.leaf in
-    let stays : Record → Bool = λ r. is_ne (point_cmp r.key point) in
-    let counted = length-filter stays records in
-    let fewer = count_by-le-length stays records in
-    let light = fits.made.filled.light in
-    made_again meta page point records fits.there.area (without point) fits.made fits.there.leaf (omega arith) (λ area records inside h. del_keeps point area records inside h)
+-- what an edit makes of a page is well made
+pub edit_made : (meta : Meta) (page : LivePage) (e : Edit) → FitsEdit meta page e → FitsFile meta (edited_page e page)
+edit_made meta page e fits =
+    let capacity : capacity_of page.level meta.dcap meta.icap ≡ meta.dcap = ap (λ (b : Bool). cond b meta.dcap meta.icap) (eq-eqb page.level 0 fits.level) in
+    let before = fits.made.filled.light in
+    let light : weight_of (edited_page e page).frag ≤ meta.dcap = elim (cases_Bool e.there) [
+      | inl there ↦ let no_more = (edits_add_no_weight meta page e fits there).0 in omega (arith, no_more, before, capacity)
+      | inr absent ↦ fits.room absent
+    ] in
+    made_again meta page e.point fits.found.records fits.found.area (with_body e.point e.body) fits.made fits.found.leaf (omega (arith, light, capacity)) (λ area records inside h. edit_keeps e.point e.body area records inside h)

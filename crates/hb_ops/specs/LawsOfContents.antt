@@ -1,16 +1,16 @@
--- What a put and a delete make of a file, as laws.
-use Rattle.std.specs.Prelude.{◌≡◌, ℕ, List, length, Option, Some, ◌≢◌, ◌≤◌, All, None}
+-- What an edit of a record makes of a file, as laws.
+use Rattle.std.specs.Prelude.{◌≡◌, ℕ, List, length, Option, Some, ◌≢◌, ◌≤◌, All}
+use Rattle.std.specs.Option.{is_some}
+use Rattle.hb_space.specs.Edits.{Edit, with_body_at}
 use Rattle.hb_frag.specs.declared.pages.LivePage.{LivePage}
 use Rattle.hb_frag.specs.declared.pages.Page.{Page}
 use Rattle.hb_frag.specs.declared.pages.Page.TheVariants.{Live, Free}
 use Rattle.hb_layout.specs.declared.meta.Meta.{Meta}
 use Rattle.hb_ops.specs.declared.operations.Op.{Op}
-use Rattle.hb_ops.specs.declared.operations.Op.TheVariants.{Put, Del}
 use Rattle.hb_ops.specs.Files.{FileState, page_of, page_records, contents_of}
 use Rattle.std.specs.FinMap as finite
-use Rattle.hb_space.specs.declared.records.Record.{Record}
 use Rattle.hb_ops.specs.Sound.{FitsFile, IsSound}
-use Rattle.hb_ops.specs.Operations.{BoxesMatch, IsAllowedOn, change_of, IsAllowed, effect_of, OpHas}
+use Rattle.hb_ops.specs.Operations.{BoxesMatch, IsAllowedOn, change_of, IsAllowed, edit_of, effect_of, OpHas}
 
 -- no other page of level 0 has a record of the point
 abbrev pub OthersLack : FileState → ℕ → List ℕ → Type 0
@@ -20,22 +20,15 @@ OthersLack s id point = (other : ℕ) (page : Page) → other ≢ id → page_of
 abbrev pub LonePage : Type 0
 LonePage = (s : FileState) (point : List ℕ) → length s.pages ≡ 1 → OthersLack s 1 point
 
--- An allowed put adds exactly one record to the contents: its point wasn't there, and is now, with its body.
-abbrev pub PutAddsOne : Type 0
-PutAddsOne = (s : FileState) (id : ℕ) (rec : Record) → IsAllowed s (Put id rec) → length rec.key ≡ s.meta.k → OthersLack s id rec.key →
-    (finite.get (contents_of s) rec.key ≡ None) × (contents_of (effect_of s (Put id rec)) ≡ finite.insert (contents_of s) rec.key rec.body)
+-- An allowed put, delete or change edits exactly one record of the contents: its point was there where the edit wants it there, and has
+-- the edit's body afterwards, or none.
+abbrev pub EditsChangeOne : Type 0
+EditsChangeOne = (s : FileState) (op : Op) (id : ℕ) (e : Edit) → edit_of op ≡ Some (id, e) → IsAllowed s op → OpHas s.meta.k op → OthersLack s id e.point →
+    (is_some (finite.get (contents_of s) e.point) ≡ e.there) × (contents_of (effect_of s op) ≡ with_body_at e.point e.body (contents_of s))
 
--- An allowed delete takes exactly one record away: its point was there, and isn't now.
-abbrev pub DelTakesOne : Type 0
-DelTakesOne = (s : FileState) (id : ℕ) (point : List ℕ) → IsAllowed s (Del id point) → length point ≡ s.meta.k → OthersLack s id point →
-    ((body : List ℕ) × (finite.get (contents_of s) point ≡ Some body)) × (contents_of (effect_of s (Del id point)) ≡ finite.remove (contents_of s) point)
-
--- An allowed put leaves a sound file sound, and so does an allowed delete.
-abbrev pub PutStaysSound : Type 0
-PutStaysSound = (s : FileState) (id : ℕ) (rec : Record) → IsSound s → length rec.key ≡ s.meta.k → IsAllowed s (Put id rec) → IsSound (effect_of s (Put id rec))
-
-abbrev pub DelStaysSound : Type 0
-DelStaysSound = (s : FileState) (id : ℕ) (point : List ℕ) → IsSound s → length point ≡ s.meta.k → IsAllowed s (Del id point) → IsSound (effect_of s (Del id point))
+-- It leaves a sound file sound.
+abbrev pub EditsStaySound : Type 0
+EditsStaySound = (s : FileState) (op : Op) (id : ℕ) (e : Edit) → edit_of op ≡ Some (id, e) → IsSound s → IsAllowed s op → IsSound (effect_of s op)
 
 -- a page in use is well made for the file
 abbrev pub IsWellIn : Meta → Page → Type 0

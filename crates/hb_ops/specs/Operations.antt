@@ -1,7 +1,7 @@
--- When each operation is allowed, and what it does: first for the pages that it reads, then for a file. And what
--- a put and a delete make of a file, as laws.
-use Rattle.std.specs.Prelude.{◌≡◌, ℕ, ◌+◌, ◌-◌, ◌==◌, nat_lt, if◌then◌else◌, List, [], ◌∷◌, ◌++◌, length, get_or, Option, Some, slice_set}
+-- When each operation is allowed, and what it does: first for the pages that it reads, then for a file.
+use Rattle.std.specs.Prelude.{◌≡◌, ℕ, ◌+◌, ◌-◌, ◌==◌, nat_lt, if◌then◌else◌, List, [], ◌∷◌, ◌++◌, length, get_or, Option, Some, None, slice_set}
 use Rattle.hb_space.specs.Boxes.{IsArea}
+use Rattle.hb_space.specs.Edits.{Edit, adding, changing, taking_away}
 use Rattle.hb_frag.specs.declared.pages.LivePage.{LivePage}
 use Rattle.hb_frag.specs.declared.pages.Page.{Page}
 use Rattle.hb_frag.specs.declared.pages.Page.TheVariants.{Live, Free}
@@ -9,18 +9,26 @@ use Rattle.hb_frag.specs.Leaves.{first_named, siblings_of}
 use Rattle.hb_frag.specs.Paths.{part_at}
 use Rattle.hb_layout.specs.declared.meta.Meta.{Meta}
 use Rattle.hb_ops.specs.declared.operations.Op.{Op}
-use Rattle.hb_ops.specs.declared.operations.Op.TheVariants.{Put, Del, Extract, Post, Merge, Grow}
+use Rattle.hb_ops.specs.declared.operations.Op.TheVariants.{Put, Del, Change, Extract, Post, Merge, Grow}
 use Rattle.hb_ops.specs.Allocating.{NamesNext, allocated, FitsGrow, new_root, raised}
 use Rattle.hb_ops.specs.Extracting.{FitsExtract, split_pages}
 use Rattle.hb_ops.specs.Files.{FileState, live_page}
 use Rattle.hb_ops.specs.Merging.{FitsMerge, kept_page, parent_page, released}
 use Rattle.hb_ops.specs.Posting.{FitsPost, GaveAway, post_page}
-use Rattle.hb_ops.specs.Recording.{FitsDel, FitsPut, del_page, put_page}
+use Rattle.hb_ops.specs.Recording.{FitsEdit, edited_page}
+
+-- A put, a delete and a change are one kind: they edit one record of a page. The others edit none.
+abbrev pub edit_of : Op → Option (ℕ × Edit)
+edit_of (Put page rec) = Some (page, adding rec)
+edit_of (Del page point) = Some (page, taking_away point)
+edit_of (Change page rec) = Some (page, changing rec)
+edit_of op = None
 
 -- the numbers of the pages that an operation reads, in the order in which they are given
 abbrev pub reads_of : Op → List ℕ
 reads_of (Put page rec) = page ∷ []
 reads_of (Del page point) = page ∷ []
+reads_of (Change page rec) = page ∷ []
 reads_of (Extract source fresh path cuts free_after) = source ∷ []
 reads_of (Post parent at inner area) = parent ∷ []
 reads_of (Merge parent keep gone) = parent ∷ keep ∷ gone ∷ []
@@ -29,8 +37,9 @@ reads_of (Grow fresh free_after) = []
 -- An operation is allowed on what it reads. A page that isn't in use isn't given, and then no operation is allowed
 -- that reads it.
 abbrev pub IsAllowedOn : Op → Meta → Option LivePage → Option LivePage → Option LivePage → Type 0
-IsAllowedOn (Put id rec) meta (Some page) second third = FitsPut meta page rec
-IsAllowedOn (Del id point) meta (Some page) second third = FitsDel meta page point
+IsAllowedOn (Put id rec) meta (Some page) second third = FitsEdit meta page (adding rec)
+IsAllowedOn (Del id point) meta (Some page) second third = FitsEdit meta page (taking_away point)
+IsAllowedOn (Change id rec) meta (Some page) second third = FitsEdit meta page (changing rec)
 IsAllowedOn (Extract source fresh path cuts free_after) meta (Some page) second third = FitsExtract meta page fresh path cuts free_after
 IsAllowedOn (Post parent at inner area) meta (Some page) second third = FitsPost meta page at inner area
 IsAllowedOn (Merge parent keep gone) meta (Some above) (Some kept) (Some going) = FitsMerge meta parent keep gone above kept going
@@ -38,13 +47,14 @@ IsAllowedOn (Grow fresh free_after) meta first second third = FitsGrow meta fres
 IsAllowedOn op meta first second third = ⊥
 
 -- what an operation makes of a file: what the file says of itself then, and the pages that change
-pub record Change : Type 0 where
+pub record FileChange : Type 0 where
   pub meta : Meta
   pub pages : List (ℕ × Page)
 
-abbrev pub change_of : Op → Meta → Option LivePage → Option LivePage → Option LivePage → Change
-change_of (Put id rec) meta (Some page) second third = record { meta = meta; pages = (id, Live (put_page rec page)) ∷ [] }
-change_of (Del id point) meta (Some page) second third = record { meta = meta; pages = (id, Live (del_page point page)) ∷ [] }
+abbrev pub change_of : Op → Meta → Option LivePage → Option LivePage → Option LivePage → FileChange
+change_of (Put id rec) meta (Some page) second third = record { meta = meta; pages = (id, Live (edited_page (adding rec) page)) ∷ [] }
+change_of (Del id point) meta (Some page) second third = record { meta = meta; pages = (id, Live (edited_page (taking_away point) page)) ∷ [] }
+change_of (Change id rec) meta (Some page) second third = record { meta = meta; pages = (id, Live (edited_page (changing rec) page)) ∷ [] }
 change_of (Extract source fresh path cuts free_after) meta (Some page) second third = record {
   meta = allocated meta fresh free_after;
   pages = split_pages source fresh path cuts page (part_at path page.frag page.area);
@@ -68,8 +78,8 @@ nth_read s op place = live_page s (get_or (reads_of op) place 0)
 abbrev pub IsAllowed : FileState → Op → Type 0
 IsAllowed s op = IsAllowedOn op s.meta (nth_read s op 0) (nth_read s op 1) (nth_read s op 2)
 
--- What a caller of the store knows beyond that, which no page that an operation reads can tell. A put, a delete and a merge
--- need nothing more.
+-- What a caller of the store knows beyond that, which no page that an operation reads can tell. An edit of a record and a
+-- merge need nothing more.
 abbrev pub IsLicensed : FileState → Op → Type 0
 IsLicensed s (Extract source fresh path cuts free_after) = NamesNext s fresh free_after
 IsLicensed s (Post parent at inner area) = GaveAway s parent at inner area
@@ -93,6 +103,7 @@ effect_of s op = let change = change_of op s.meta (nth_read s op 0) (nth_read s 
 abbrev pub OpHas : ℕ → Op → Type 0
 OpHas k (Put page rec) = length rec.key ≡ k
 OpHas k (Del page point) = length point ≡ k
+OpHas k (Change page rec) = length rec.key ≡ k
 OpHas k (Post parent at inner area) = IsArea area × (length area.lo ≡ k)
 OpHas k op = Unit {0}
 

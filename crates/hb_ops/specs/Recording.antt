@@ -1,8 +1,9 @@
--- A record joins a page, or goes from one, and what a put and a delete find in it.
-use Rattle.std.specs.Prelude.{◌≡◌, ◌≢◌, ℕ, ◌≤◌, List, ◌∷◌, ◌++◌, filter, All, Any, Some}
+-- One record of a page is edited: it joins, goes, or gets another body. And what an edit finds in the page.
+use Rattle.std.specs.Prelude.{◌≡◌, ◌≢◌, ℕ, ◌≤◌, Bool, true, false, List, ◌∷◌, ◌++◌, filter, All, Any, Option, Some, None}
 use Rattle.std.specs.Ordering.{is_lt, is_gt, is_ne}
 use Rattle.hb_space.specs.Points.{point_cmp}
 use Rattle.hb_space.specs.Boxes.{Area, Holds}
+use Rattle.hb_space.specs.Edits.{Edit, adding, taking_away}
 use Rattle.hb_space.specs.declared.records.Record.{Record}
 use Rattle.hb_frag.specs.declared.leaves.Leaf.{Leaf}
 use Rattle.hb_frag.specs.declared.leaves.Leaf.TheVariants.{Records}
@@ -21,6 +22,11 @@ joined rec records = filter (λ r. is_lt (point_cmp r.key rec.key)) records ++ r
 abbrev pub without : List ℕ → List Record → List Record
 without point records = filter (λ r. is_ne (point_cmp r.key point)) records
 
+-- the records with this body at the point, whatever they had there, or with none
+abbrev pub with_body : List ℕ → Option (List ℕ) → List Record → List Record
+with_body point (Some body) records = joined (record { key = point; body = body }) records
+with_body point None records = without point records
+
 -- a leaf with its records changed; one that names a page stays
 abbrev pub on_records : (List Record → List Record) → Leaf → Leaf
 on_records change (Records records) = Records (change records)
@@ -30,12 +36,15 @@ on_records change other = other
 abbrev pub page_with : List ℕ → (List Record → List Record) → LivePage → LivePage
 page_with point change page = record { level = page.level; area = page.area; frag = with_leaf_at point (on_records change) page.frag page.area }
 
--- the page with the record, and the page without that of the point
+-- what an edit makes of a page; so the page with a record, and the page without that of the point
+abbrev pub edited_page : Edit → LivePage → LivePage
+edited_page e page = page_with e.point (with_body e.point e.body) page
+
 abbrev pub put_page : Record → LivePage → LivePage
-put_page rec page = page_with rec.key (joined rec) page
+put_page rec page = edited_page (adding rec) page
 
 abbrev pub del_page : List ℕ → LivePage → LivePage
-del_page point page = page_with point (without point) page
+del_page point page = edited_page (taking_away point) page
 
 -- the page's leaf at the point is one of records, and they keep P
 pub record HasRecordsAt (page : LivePage) (point : List ℕ) (P : List Record → Type 0) : Type 0 where
@@ -44,19 +53,18 @@ pub record HasRecordsAt (page : LivePage) (point : List ℕ) (P : List Record �
   pub leaf : leaf_at page point ≡ Some (record { leaf = Records records; area = area })
   pub keeps : P records
 
--- A record may be put into a page of level 0 whose leaf at its point has records and not this point, where the page
--- has room: it is the weight after it that is at most the capacity.
-pub record FitsPut (meta : Meta) (page : LivePage) (rec : Record) : Type 0 where
-  pub made : FitsFile meta page
-  pub level : page.level ≡ 0
-  pub absent : HasRecordsAt page rec.key (All (λ r. r.key ≢ rec.key))
-  pub room : weight_of (put_page rec page).frag ≤ meta.dcap
+-- the point is among records, or it isn't
+abbrev pub HasPoint : Bool → List ℕ → List Record → Type 0
+HasPoint true point records = Any (λ r. r.key ≡ point) records
+HasPoint false point records = All (λ r. r.key ≢ point) records
 
--- The record of a point may be taken from a page of level 0 whose leaf at the point has it.
-pub record FitsDel (meta : Meta) (page : LivePage) (point : List ℕ) : Type 0 where
+-- An edit fits a page of level 0 whose leaf at the point has records, and the point where the edit wants it there. One that adds a
+-- record wants room too: it is the weight after it that is at most the capacity. A change and a delete never want any.
+pub record FitsEdit (meta : Meta) (page : LivePage) (e : Edit) : Type 0 where
   pub made : FitsFile meta page
   pub level : page.level ≡ 0
-  pub there : HasRecordsAt page point (Any (λ r. r.key ≡ point))
+  pub found : HasRecordsAt page e.point (HasPoint e.there e.point)
+  pub room : e.there ≡ false → weight_of (edited_page e page).frag ≤ meta.dcap
 
 -- the page is well made and of level 0, and its leaf at the point has these records
 pub record IsOpenAt (meta : Meta) (page : LivePage) (point : List ℕ) (records : List Record) : Type 0 where
@@ -66,14 +74,18 @@ pub record IsOpenAt (meta : Meta) (page : LivePage) (point : List ℕ) (records 
   pub area : Area
   pub leaf : leaf_at page point ≡ Some (record { leaf = Records records; area = area })
 
--- a put of the record is allowed, and these are its leaf's records with their gap for it
-pub record HasGap (meta : Meta) (page : LivePage) (rec : Record) (records : List Record) (place : ℕ) : Type 0 where
-  pub fits : FitsPut meta page rec
-  pub opened : IsOpenAt meta page rec.key records
-  pub gap : IsGapFor point_cmp point_of records rec.key place
+-- where a point stands among records that have it, or would stand
+abbrev pub StandsAt : Bool → List ℕ → List Record → ℕ → Type 0
+StandsAt true point records place = IsPlaceOf point_of records point place
+StandsAt false point records place = IsGapFor point_cmp point_of records point place
 
--- a delete of the point is allowed, and these are its leaf's records with its place among them
-pub record HasPlace (meta : Meta) (page : LivePage) (point : List ℕ) (records : List Record) (place : ℕ) : Type 0 where
-  pub fits : FitsDel meta page point
-  pub opened : IsOpenAt meta page point records
-  pub found : IsPlaceOf point_of records point place
+-- the edit fits, and these are its leaf's records with the place of its point among them
+pub record HasSpot (meta : Meta) (page : LivePage) (e : Edit) (records : List Record) (place : ℕ) : Type 0 where
+  pub fits : FitsEdit meta page e
+  pub opened : IsOpenAt meta page e.point records
+  pub stands : StandsAt e.there e.point records place
+
+-- An edit of a record that is there leaves the page as heavy as it was where a record stays there, and else no heavier.
+abbrev pub EditsAddNoWeight : Type 0
+EditsAddNoWeight = (meta : Meta) (page : LivePage) (e : Edit) → FitsEdit meta page e → e.there ≡ true →
+    (weight_of (edited_page e page).frag ≤ weight_of page.frag) × ((body : List ℕ) → e.body ≡ Some body → weight_of (edited_page e page).frag ≡ weight_of page.frag)

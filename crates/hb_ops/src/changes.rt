@@ -5,11 +5,11 @@ ghost use Rattle.hb_frag.specs.declared.pages.LivePage.{LivePage as Made};
 ghost use Rattle.hb_frag.specs.declared.pages.Page.TheVariants.{Live, Free};
 ghost use Rattle.hb_ops.specs.Merging.{released};
 ghost use Rattle.hb_ops.specs.Operations.{IsAllowedOn, change_of, OpHas};
-ghost use Rattle.hb_ops.specs.Given.{given};
+ghost use Rattle.hb_ops.specs.Given.{FitsGiven, MakesEdited, edit_seen, given};
 ghost use Rattle.hb_ops.specs.declared.changes.ChangeError.TheVariants.{Unfit, NoMemory as Starved};
 
 use crate::allocations::allocated;
-use crate::edits::{delete, put};
+use crate::edits::{Editing, edit};
 use crate::extracting::{Part, extract};
 use crate::growing::{may_grow, new_root, raised};
 use crate::merging::{Merging, merge, released};
@@ -59,14 +59,9 @@ pub fn change(
     ensures memory { IsErrOf result Starved → IsAllowedOn op.now meta.now (given first.entry) (given second.entry) (given third.entry) }
 {
     match op {
-        Op::Put { page: id, rec } => match first {
-            None => Err(ChangeError::Unfit),
-            Some(page) => one_made(meta, *id, put(alloc, page, meta, rec)),
-        },
-        Op::Del { page: id, point } => match first {
-            None => Err(ChangeError::Unfit),
-            Some(page) => one_made(meta, *id, delete(alloc, page, meta, point)),
-        },
+        Op::Put { page, rec } => edited(alloc, meta, *page, first, Editing::adding(rec)),
+        Op::Del { page, point } => edited(alloc, meta, *page, first, Editing::taking_away(point)),
+        Op::Change { page, rec } => edited(alloc, meta, *page, first, Editing::changing(rec)),
         Op::Extract {
             source,
             fresh,
@@ -98,6 +93,25 @@ pub fn change(
             _ => Err(ChangeError::Unfit),
         },
         Op::Grow { fresh, free_after } => grown(meta, *fresh, *free_after),
+    }
+}
+
+// The page with one record edited, where it is in use and the edit fits it.
+fn edited(
+    alloc: Global,
+    meta: &Meta,
+    id: u32,
+    first: Option<&LivePage>,
+    editing: Editing<'_>,
+) -> Result<Changed, ChangeError>
+    ensures allowed { IfOk result (λ c. FitsGiven meta.now (given first.entry) (edit_seen editing.entry)) }
+    ensures effect { IfOk result (λ c. MakesEdited meta.now id (given first.entry) (edit_seen editing.entry) (record { meta = c.meta; pages = c.pages.items })) }
+    ensures unfit { IsErrOf result Unfit → ¬ (FitsGiven meta.now (given first.entry) (edit_seen editing.entry)) }
+    ensures memory { IsErrOf result Starved → FitsGiven meta.now (given first.entry) (edit_seen editing.entry) }
+{
+    match first {
+        None => Err(ChangeError::Unfit),
+        Some(page) => one_made(meta, id, edit(alloc, page, meta, editing)),
     }
 }
 

@@ -1,6 +1,6 @@
-//! A page with one record more in a leaf, or one fewer.
+//! A page with one record edited: added, taken away, or given another body.
 
-ghost use Rattle.std.specs.Prelude.{◌≡◌, ◌+◌, ◌<◌, ◌≤◌, ◌^◌, ◌==◌, ◌++◌, ◌∷◌, if◌then◌else◌, List, length, take, drop, AllPairs, IfOk, IfErr, IsErrOf, MatchOption, OnOk};
+ghost use Rattle.std.specs.Prelude.{◌≡◌, ◌↔◌, ◌+◌, ◌<◌, ◌≤◌, ◌^◌, ◌==◌, ◌++◌, [], if◌then◌else◌, List, length, option_copied, take, drop, Some, AllPairs, IfOk, IfErr, IsErrOf, IsTrue, MatchOption, OnOk};
 ghost use Rattle.hb_space.specs.Boxes.{Holds};
 ghost use Rattle.hb_space.specs.Points.{point_cmp};
 ghost use Rattle.hb_space.specs.declared.records.Record.{Record as Entry};
@@ -8,96 +8,99 @@ ghost use Rattle.hb_frag.specs.declared.leaves.Leaf.TheVariants as kinds;
 ghost use Rattle.hb_frag.specs.Leaves.{WellCut, weight_of, with_leaf_at};
 ghost use Rattle.hb_frag.specs.Rules.{Precedes, point_of};
 ghost use Rattle.hb_lemmas.specs.Places.{IsGapFor, IsPlaceOf};
-ghost use Rattle.hb_ops.specs.Recording.{HasGap, HasPlace, IsOpenAt, FitsDel, FitsPut, del_page, put_page};
+ghost use Rattle.hb_ops.specs.Given.{edit_seen};
+ghost use Rattle.hb_space.specs.Edits.{adding, changing, record_with, taking_away};
+ghost use Rattle.hb_ops.specs.Recording.{HasSpot, IsOpenAt, FitsEdit, edited_page};
 ghost use Rattle.hb_ops.specs.declared.changes.ChangeError.TheVariants.{Unfit, NoMemory as Starved};
 
 use crate::local::local_rule;
 use crate::{ChangeError, Meta};
 use hb_frag::{Frag, Leaf, LivePage};
-use hb_space::{NoMemory, Point, Record, Records};
+use hb_space::{Body, NoMemory, Point, Record, Records};
 use std::alloc::Global;
 
-/// The page with the record, where a put of it is allowed.
-pub(crate) fn put(
+/// What an operation asks of one record: at the point a record is to be there, or none, and afterwards one of this body, or none.
+#[derive(Clone, Copy)]
+pub(crate) struct Editing<'a> {
+    pub(crate) point: &'a Point,
+    pub(crate) there: bool,
+    pub(crate) body: Option<&'a Body>,
+}
+
+impl<'a> Editing<'a> {
+    /// The record is added.
+    pub(crate) fn adding(rec: &'a Record) -> Editing<'a>
+        ensures { edit_seen result ≡ adding rec.now }
+    {
+        Editing {
+            point: &rec.key,
+            there: false,
+            body: Some(&rec.body),
+        }
+    }
+
+    /// The record of the point goes.
+    pub(crate) fn taking_away(point: &'a Point) -> Editing<'a>
+        ensures { edit_seen result ≡ taking_away point.now }
+    {
+        Editing {
+            point,
+            there: true,
+            body: None,
+        }
+    }
+
+    /// The record that is there gets this body.
+    pub(crate) fn changing(rec: &'a Record) -> Editing<'a>
+        ensures { edit_seen result ≡ changing rec.now }
+    {
+        Editing {
+            point: &rec.key,
+            there: true,
+            body: Some(&rec.body),
+        }
+    }
+}
+
+/// The page with one record edited, where the edit fits it.
+pub(crate) fn edit(
     alloc: Global,
     page: &LivePage,
     meta: &Meta,
-    rec: &Record,
+    editing: Editing<'_>,
 ) -> Result<LivePage, ChangeError>
-    ensures allowed { IfOk result (λ made. FitsPut meta.now page.now rec.now) }
-    ensures effect { IfOk result (λ made. made ≡ put_page rec.now page.now) }
-    ensures unfit { IsErrOf result Unfit → ¬ (FitsPut meta.now page.now rec.now) }
-    ensures memory { IsErrOf result Starved → FitsPut meta.now page.now rec.now }
+    ensures allowed { IfOk result (λ made. FitsEdit meta.now page.now (edit_seen editing.entry)) }
+    ensures effect { IfOk result (λ made. made ≡ edited_page (edit_seen editing.entry) page.now) }
+    ensures unfit { IsErrOf result Unfit → ¬ (FitsEdit meta.now page.now (edit_seen editing.entry)) }
+    ensures memory { IsErrOf result Starved → FitsEdit meta.now page.now (edit_seen editing.entry) }
 {
-    match gap_for(page, meta, rec) {
+    match spot_for(page, meta, editing) {
         None => Err(ChangeError::Unfit),
-        Some((records, place)) => match with_record(alloc, page, meta, rec, records, place) {
+        Some((records, place)) => match with_edit(alloc, page, meta, editing, records, place) {
             Ok(made) => Ok(made),
             Err(_) => Err(ChangeError::NoMemory),
         },
     }
 }
 
-/// The page without the record of the point, where a delete of it is allowed.
-pub(crate) fn delete(
-    alloc: Global,
-    page: &LivePage,
-    meta: &Meta,
-    point: &Point,
-) -> Result<LivePage, ChangeError>
-    ensures allowed { IfOk result (λ made. FitsDel meta.now page.now point.now) }
-    ensures effect { IfOk result (λ made. made ≡ del_page point.now page.now) }
-    ensures unfit { IsErrOf result Unfit → ¬ (FitsDel meta.now page.now point.now) }
-    ensures memory { IsErrOf result Starved → FitsDel meta.now page.now point.now }
-{
-    match place_in(page, meta, point) {
-        None => Err(ChangeError::Unfit),
-        Some((records, place)) => match without_record(alloc, page, meta, point, records, place) {
-            Ok(made) => Ok(made),
-            Err(_) => Err(ChangeError::NoMemory),
-        },
-    }
-}
-
-// The records of the leaf at the record's point, and the place among them to which it would go.
-// `None` where a put of it isn't allowed.
-pub(crate) fn gap_for<'a>(
+// The records of the leaf at the point, and the place of the point among them. `None` where the edit doesn't fit.
+pub(crate) fn spot_for<'a>(
     page: &'a LivePage,
     meta: &Meta,
-    rec: &Record,
+    editing: Editing<'_>,
 ) -> Option<(&'a Records, usize)>
     ensures { MatchOption result
-        (¬ (FitsPut meta.now page.now rec.now))
-        (λ gap. HasGap meta.now page.now rec.now gap.0.now gap.1) }
+        (¬ (FitsEdit meta.now page.now (edit_seen editing.entry)))
+        (λ spot. HasSpot meta.now page.now (edit_seen editing.entry) spot.0.now spot.1) }
 {
-    match open_at(page, meta, &rec.key) {
+    match open_at(page, meta, editing.point) {
         None => None,
-        Some(records) => match place_of(records.as_slice(), &rec.key) {
-            Ok(_) => None,
-            Err(place) => {
-                let capacity = meta.dcap;
-                if weight_with_one_more(page, records) <= u32::from(capacity) {
-                    Some((records, place))
-                } else {
-                    None
-                }
+        Some(records) => match place_of(records.as_slice(), editing.point) {
+            Ok(place) if editing.there => Some((records, place)),
+            Err(gap) if !editing.there && has_room(page, meta, records, editing.body.is_some()) => {
+                Some((records, gap))
             }
-        },
-    }
-}
-
-// The records of the leaf at the point, and its place among them. `None` where a delete of it
-// isn't allowed.
-fn place_in<'a>(page: &'a LivePage, meta: &Meta, point: &Point) -> Option<(&'a Records, usize)>
-    ensures { MatchOption result
-        (¬ (FitsDel meta.now page.now point.now))
-        (λ found. HasPlace meta.now page.now point.now found.0.now found.1) }
-{
-    match open_at(page, meta, point) {
-        None => None,
-        Some(records) => match place_of(records.as_slice(), point) {
-            Ok(place) => Some((records, place)),
-            Err(_) => None,
+            _ => None,
         },
     }
 }
@@ -137,49 +140,32 @@ pub(crate) fn place_of(records: &[Record], point: &Point) -> Result<usize, usize
     records.binary_search_by(|record| record.key.cmp(point))
 }
 
-// What the page weighs once a leaf of these records has one more: a leaf without a record weighs
-// 1 already.
-fn weight_with_one_more(page: &LivePage, records: &Records) -> u32
-    requires { weight_of page.now.frag < 2 ^ 16 }
-    ensures { result ≡ weight_of page.now.frag + (if length records.now == 0 then 0 else 1) }
+// Whether the page has room, where a leaf of these records gets one more, or none: a leaf without a record weighs 1 already.
+fn has_room(page: &LivePage, meta: &Meta, records: &Records, adds: bool) -> bool
+    requires { weight_of page.now.frag ≤ meta.now.dcap }
+    ensures { IsTrue result ↔ (weight_of page.now.frag + (if length records.now == 0 then 0 else (if adds then 1 else 0)) ≤ meta.now.dcap) }
 {
-    if records.as_slice().is_empty() {
-        page.weight()
-    } else {
-        page.weight() + 1
-    }
+    let capacity = u32::from(meta.dcap);
+    let more = u32::from(adds && !records.as_slice().is_empty());
+    page.weight() + more <= capacity
 }
 
-// The page with the record in its place.
-fn with_record(
+// The page with the edit at the place.
+fn with_edit(
     alloc: Global,
     page: &LivePage,
     meta: &Meta,
-    rec: &Record,
+    editing: Editing<'_>,
     records: &Records,
     place: usize,
 ) -> Result<LivePage, NoMemory>
-    requires { HasGap meta.now page.now rec.now records.now place }
-    ensures { IfOk result (λ made. made ≡ put_page rec.now page.now) }
+    requires { HasSpot meta.now page.now (edit_seen editing) records.now place }
+    ensures { IfOk result (λ made. made ≡ edited_page (edit_seen editing.entry) page.now) }
 {
-    let joined = records_with(alloc, records.as_slice(), place, rec)?;
-    with_records(alloc, page, &rec.key, joined)
-}
-
-// The page without the record at the place.
-fn without_record(
-    alloc: Global,
-    page: &LivePage,
-    meta: &Meta,
-    point: &Point,
-    records: &Records,
-    place: usize,
-) -> Result<LivePage, NoMemory>
-    requires { HasPlace meta.now page.now point.now records.now place }
-    ensures { IfOk result (λ made. made ≡ del_page point.now page.now) }
-{
-    let rest = records_without(alloc, records.as_slice(), place)?;
-    with_records(alloc, page, point, rest)
+    let records = records.as_slice();
+    let behind = behind(place, editing.there);
+    let edited = records_with(alloc, records, place, behind, editing.point, editing.body)?;
+    with_records(alloc, page, editing.point, edited)
 }
 
 // The page with these records in its leaf at the point.
@@ -208,33 +194,43 @@ fn with_records(
     })
 }
 
-// The records with one more at the place.
+// Where the records behind a point's begin, by its place among them and whether it is there.
+fn behind(place: usize, there: bool) -> usize
+    requires { place < 2 ^ 63 }
+    ensures { result ≡ place + (if there then 1 else 0) }
+{
+    if there { place + 1 } else { place }
+}
+
+// The records in front of the one place and from the other on, and between them the point's with this body, or none.
 fn records_with(
     alloc: Global,
     records: &[Record],
     place: usize,
-    rec: &Record,
+    behind: usize,
+    point: &Point,
+    body: Option<&Body>,
 ) -> Result<Records, NoMemory>
-    requires { place ≤ length records.now }
-    ensures { IfOk result (λ made. made ≡ take place records.now ++ rec.now ∷ drop place records.now) }
+    requires place { place ≤ length records.now }
+    requires behind { behind ≤ length records.now }
+    ensures { IfOk result (λ made. made ≡ take place records.now ++ (record_with point.now (option_copied body.entry) ++ drop behind records.now)) }
 {
-    let (before, after) = records.split_at(place);
-    let mut made = Vec::with_capacity(alloc, records.len() + 1)?;
-    push_copies(&mut made, before)?;
-    made.push(rec.copy())?;
-    push_copies(&mut made, after)?;
+    let mut made = Vec::new(alloc);
+    push_copies(&mut made, &records[..place])?;
+    if let Some(body) = body {
+        push_record(&mut made, point, body)?;
+    }
+    push_copies(&mut made, &records[behind..])?;
     Ok(Records::new(made))
 }
 
-// The records but the one at the place.
-fn records_without(alloc: Global, records: &[Record], place: usize) -> Result<Records, NoMemory>
-    requires { place < length records.now }
-    ensures { IfOk result (λ made. made ≡ take place records.now ++ drop (place + 1) records.now) }
+// Adds the record of the point with this body at the end.
+fn push_record(made: &mut Vec<Record>, point: &Point, body: &Body) -> Result<(), NoMemory>
+    ensures { OnOk result (made.new.items ≡ made.old.items ++ record_with point.now (Some body.now)) }
 {
-    let mut made = Vec::with_capacity(alloc, records.len() - 1)?;
-    push_copies(&mut made, &records[..place])?;
-    push_copies(&mut made, &records[place + 1..])?;
-    Ok(Records::new(made))
+    let (key, body) = (point.copy(), body.copy());
+    made.push(Record { key, body })?;
+    Ok(())
 }
 
 // Adds the same records at the end.

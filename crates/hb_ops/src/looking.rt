@@ -4,11 +4,12 @@ ghost use Rattle.std.specs.Prelude.{◌≡◌, ◌<◌, ◌^◌, ◌↔◌, AllP
 ghost use Rattle.hb_space.specs.Boxes.{Holds};
 ghost use Rattle.hb_frag.specs.Rules.{Precedes};
 ghost use Rattle.hb_ops.specs.Sound.{FitsFile};
-ghost use Rattle.hb_ops.specs.Recording.{FitsPut};
+ghost use Rattle.hb_ops.specs.Recording.{FitsEdit};
+ghost use Rattle.hb_space.specs.Edits.{adding};
 ghost use Rattle.hb_ops.specs.Standing.{Stands, StandsAmong};
 
 use crate::Meta;
-use crate::edits::{gap_for, place_of};
+use crate::edits::{Editing, place_of, spot_for};
 use hb_frag::{Leaf, LivePage};
 use hb_space::{Point, Record};
 
@@ -49,7 +50,7 @@ pub fn look_at<'a>(page: &'a LivePage, meta: &Meta, point: &Point) -> Standing<'
 
 /// Whether the record may be put into the page: its leaf there has records and not its point, and the page has room.
 pub fn has_room(page: &LivePage, meta: &Meta, rec: &Record) -> bool
-    ensures { IsTrue result ↔ FitsPut meta.now page.now rec.now }
+    ensures { IsTrue result ↔ FitsEdit meta.now page.now (adding rec.now) }
 {
-    gap_for(page, meta, rec).is_some()
+    spot_for(page, meta, Editing::adding(rec)).is_some()
 }

@@ -19,6 +19,11 @@ pub enum Op {
         page: u32,
         point: Point,
     },
+    /// The record of a point of a page gets another body.
+    Change {
+        page: u32,
+        rec: Record,
+    },
     /// A part of a page becomes a page of its own, and a sibling leaf to it stands in its place.
     Extract {
         /// The page that is split.
@@ -67,7 +72,9 @@ impl Op {
     {
         let mut reads = ArrayVec::new();
         match self {
-            Op::Put { page, .. } | Op::Del { page, .. } => reads.push(*page),
+            Op::Put { page, .. } | Op::Del { page, .. } | Op::Change { page, .. } => {
+                reads.push(*page);
+            }
             Op::Extract { source, .. } => reads.push(*source),
             Op::Post { parent, .. } => reads.push(*parent),
             Op::Merge { parent, keep, gone } => {

@@ -1,10 +1,10 @@
 -- The operation that a row says is allowed on the page that the row is given.
-use Rattle.std.proofs.Common.{inl, inr, ℕ, ◌≤◌, List, refl, arith}
+use Rattle.std.proofs.Common.{inl, inr, ℕ, ◌≤◌, List, Some, None, refl, arith}
 use Rattle.hb_space.specs.declared.records.Record.{Record}
 use Rattle.hb_frag.specs.declared.pages.LivePage.{LivePage}
 use Rattle.hb_ops.specs.declared.operations.Op.TheVariants as ops
 use Rattle.hb_set.specs.declared.commands.Command.{Command}
-use Rattle.hb_set.specs.declared.commands.Command.TheVariants.{Insert, Delete, Lookup, Search}
+use Rattle.hb_set.specs.declared.commands.Command.TheVariants.{Insert, Delete, Change, Lookup, Search}
 use Rattle.hb_set.specs.declared.scripts.Line.{Line}
 use Rattle.hb_activity.proofs.Facts.AllowedDeeds.{Shows, allocates, none_shown, one_shown}
 use Rattle.hb_activity.specs.Deeds.{Deed}
@@ -15,7 +15,7 @@ use Rattle.hb_ops.specs.Recording.{put_page}
 use Rattle.hb_ops.specs.Sound.{FitsFile}
 use Rattle.hb_ops.specs.Standing.{StandsNot, StandsThere}
 use Rattle.hb_point.proofs.Facts.RecordLeaves.{put_weighs}
-use Rattle.hb_point.proofs.Facts.RecordOps.{del_fits, put_fits}
+use Rattle.hb_point.proofs.Facts.RecordOps.{edit_fits, put_fits}
 use Rattle.hb_point.specs.SessionRows.{DoesThere}
 use Rattle.hb_point.specs.Laws.{CommandsAreAllowed, FullPagesAreHeavy, SplitsAreAllowed, PutsAreAllowed}
 use Rattle.hb_split.proofs.Facts.Allowed.{chosen_fits}
@@ -30,7 +30,10 @@ module _ (s : Sight) (id : ℕ) (page : LivePage) (made : FitsFile s.meta page) 
   put_allowed rec absent room = record { reads = refl; allowed = put_fits s.meta page rec made absent room }
 
   del_allowed : (p : List ℕ) (r : Record) → StandsThere page p r → IsAllowedAlone s id page (ops.Del id p)
-  del_allowed p r there = record { reads = refl; allowed = del_fits s.meta page p r made there }
+  del_allowed p r there = record { reads = refl; allowed = edit_fits s.meta page p None r made there }
+
+  change_allowed : (rec r : Record) → StandsThere page rec.key r → IsAllowedAlone s id page (ops.Change id rec)
+  change_allowed rec r there = record { reads = refl; allowed = edit_fits s.meta page rec.key (Some rec.body) r made there }
 
   shown_there : (line : Line) (command : Command) (deed : Deed) → DoesThere s line command id page deed → Shows (IsAllowedAlone s id page) deed
   shown_there line (Insert rec) deed (inl row) = none_shown (IsAllowedAlone s id page) deed _ row.deed_is refl
@@ -38,6 +41,8 @@ module _ (s : Sight) (id : ℕ) (page : LivePage) (made : FitsFile s.meta page) 
   shown_there line (Insert rec) deed (inr (inr row)) = none_shown (IsAllowedAlone s id page) deed _ row.deed_is refl
   shown_there line (Delete point) deed (inl row) = one_shown (IsAllowedAlone s id page) deed _ (ops.Del id point) row.deed_is refl (del_allowed point row.found row.there)
   shown_there line (Delete point) deed (inr row) = none_shown (IsAllowedAlone s id page) deed _ row.deed_is refl
+  shown_there line (Change rec) deed (inl row) = one_shown (IsAllowedAlone s id page) deed _ (ops.Change id rec) row.deed_is refl (change_allowed rec row.found row.there)
+  shown_there line (Change rec) deed (inr row) = none_shown (IsAllowedAlone s id page) deed _ row.deed_is refl
   shown_there line (Lookup point) deed (inl row) = none_shown (IsAllowedAlone s id page) deed _ row.deed_is refl
   shown_there line (Lookup point) deed (inr row) = none_shown (IsAllowedAlone s id page) deed _ row.deed_is refl
   shown_there line (Search area) deed row = absurd row

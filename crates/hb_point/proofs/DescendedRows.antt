@@ -23,18 +23,19 @@ use Rattle.hb_frag.specs.Rules.{is_thin}
 use Rattle.hb_layout.specs.declared.meta.Meta.{Meta}
 use Rattle.hb_ops.specs.declared.operations.Op.{Op}
 use Rattle.hb_ops.specs.declared.operations.Op.TheVariants.{Put, Del}
+use Rattle.hb_ops.specs.declared.operations.Op.TheVariants as ops
 use Rattle.hb_ops.specs.Recording.{del_page, put_page}
 use Rattle.hb_ops.specs.Sound.{FitsFile}
 use Rattle.hb_ops.specs.Standing.{StandsNot, StandsThere}
 use Rattle.hb_set.specs.declared.commands.Command.{Command}
-use Rattle.hb_set.specs.declared.commands.Command.TheVariants.{Insert, Delete, Lookup, Search}
+use Rattle.hb_set.specs.declared.commands.Command.TheVariants.{Insert, Delete, Change, Lookup, Search}
 use Rattle.hb_set.specs.declared.commands.Reply.{Reply}
 use Rattle.hb_set.specs.declared.commands.Reply.TheVariants as replies
 use Rattle.hb_set.specs.declared.scripts.Line.{Line}
 use Rattle.hb_space.specs.Boxes.{Area}
 use Rattle.hb_space.specs.declared.records.Record.{Record}
 use Rattle.hb_view.specs.Views.{IsLiveAnd}
-use Rattle.hb_point.proofs.Facts.OneCommand.{only_deletes, only_inserts, only_misses, only_nothing, only_splits, only_twin}
+use Rattle.hb_point.proofs.Facts.OneCommand.{only_changes, only_deletes, only_inserts, only_misses, only_nothing, only_splits, only_twin, only_unchanged}
 use Rattle.hb_point.proofs.Facts.RecordLeaves.{records_below}
 use Rattle.hb_point.proofs.ViewedRows.{TellsRoom, so, so_both}
 use Rattle.hb_point.specs.Asks.{MayAsk, WalksInside, deed_for, line_with}
@@ -89,6 +90,19 @@ module _ (v : Page) (meta : Meta) (number session id : ℕ) (next : Next) where
       (λ page there same pages free. subst (DoesThere (given_sight meta pages free) line (Delete p) id page)
       (sym (effect_so line next replies.Done (Some (Del id p)) (cond thin (record { kind = Merge; level = 1; point = p } ∷ []) []) is ∙ ap (λ (b : Bool). takes_effect 0 line replies.Done (Some (Del id p)) (cond b (record { kind = Merge; level = 1; point = p } ∷ []) [])) same))
       (only_deletes (given_sight meta pages free) line id page p there.0 there.1).done) there tells
+
+  pub changes_record : (rec : Record) → IsLiveAnd v (λ page. (found : Record) × StandsThere page rec.key found) → NextIs next (at.SessionAwait number replies.Done 0) (Some (ops.Change id rec)) [] fates.TakesEffect → DoesIn meta (line_with number session (Change rec)) id v next
+  changes_record rec there is =
+      let line = line_with number session (Change rec) in
+      so v (λ page. (found : Record) × StandsThere page rec.key found) (λ page. DoesBy meta line id page next)
+      (λ page there pages free. subst (DoesThere (given_sight meta pages free) line (Change rec) id page) (sym (effect_so line next replies.Done (Some (ops.Change id rec)) [] is)) (only_changes (given_sight meta pages free) line id page rec there.0 there.1).done) there
+
+  pub changes_nothing : (rec : Record) (found : Option (List ℕ)) → found ≡ None → IsLiveAnd v (λ page. StandsIn page rec.key found) → NextIs next (at.SessionAwait number replies.Absent 0) None [] fates.TakesEffect → DoesIn meta (line_with number session (Change rec)) id v next
+  changes_nothing rec found none stands is =
+      let line = line_with number session (Change rec) in
+      so v (λ page. StandsNot page rec.key) (λ page. DoesBy meta line id page next)
+      (λ page absent pages free. subst (DoesThere (given_sight meta pages free) line (Change rec) id page) (sym (effect_so line next replies.Absent None [] is)) (only_unchanged (given_sight meta pages free) line id page rec absent).done)
+      (subst (λ (o : Option (List ℕ)). IsLiveAnd v (λ page. StandsIn page rec.key o)) none stands)
 
   pub finds_nothing : (p : List ℕ) (found : Option (List ℕ)) → found ≡ None → IsLiveAnd v (λ page. StandsIn page p found) → NextIs next (at.SessionAwait number replies.Absent 0) None [] fates.TakesEffect → DoesIn meta (line_with number session (Delete p)) id v next
   finds_nothing p found none stands is =
@@ -199,6 +213,7 @@ at_records v meta state back id same walks asked there =
 does_one : (page : LivePage) (after : Activity) (deed : Deed) (command : Command) (rest : List Area) (s : List (ℕ × LivePage)) (meta : Meta) (line : Line) (id : ℕ) → DoesThere (given_sight meta s None) line command id page deed → MatchOption (goal_of command rest) ⊥ (λ p. PassesOn page p after deed ⊎ DoesThere (given_sight meta s None) line command id page deed)
 does_one page after deed (Insert rec) rest s meta line id does = inr does
 does_one page after deed (Delete point) rest s meta line id does = inr does
+does_one page after deed (Change rec) rest s meta line id does = inr does
 does_one page after deed (Lookup point) rest s meta line id does = inr does
 does_one page after deed (Search area) rest s meta line id does = absurd does
 

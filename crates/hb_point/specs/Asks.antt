@@ -6,7 +6,7 @@ use Rattle.hb_layout.specs.declared.meta.Meta.{Meta}
 use Rattle.hb_ops.specs.Recording.{put_page}
 use Rattle.hb_ops.specs.Standing.{StandsNot}
 use Rattle.hb_set.specs.declared.commands.Command.{Command}
-use Rattle.hb_set.specs.declared.commands.Command.TheVariants.{Insert, Delete, Lookup, Search}
+use Rattle.hb_set.specs.declared.commands.Command.TheVariants.{Insert, Delete, Change, Lookup, Search}
 use Rattle.hb_set.specs.declared.scripts.Line.{Line}
 use Rattle.hb_activity.specs.declared.activities.Activity.{Activity}
 use Rattle.hb_activity.specs.declared.activities.Activity.TheVariants as at
@@ -21,6 +21,7 @@ use Rattle.hb_activity.specs.Deeds.{Deed}
 abbrev pub WalksInside : LivePage → Command → Type 0
 WalksInside page (Insert rec) = Holds page.area rec.key
 WalksInside page (Delete point) = Holds page.area point
+WalksInside page (Change changed) = Holds page.area changed.key
 WalksInside page (Lookup point) = Holds page.area point
 WalksInside page (Search area) = ⊥
 

@@ -5,7 +5,7 @@ use Rattle.hb_frag.specs.declared.pages.LivePage.{LivePage}
 use Rattle.hb_frag.specs.declared.pages.Page.{Page}
 use Rattle.hb_layout.specs.declared.meta.Meta.{Meta}
 use Rattle.hb_set.specs.declared.commands.Command.{Command}
-use Rattle.hb_set.specs.declared.commands.Command.TheVariants.{Insert, Delete, Lookup, Search}
+use Rattle.hb_set.specs.declared.commands.Command.TheVariants.{Insert, Delete, Change, Lookup, Search}
 use Rattle.hb_set.specs.declared.scripts.Line.{Line}
 use Rattle.hb_activity.specs.declared.activities.Activity.{Activity}
 use Rattle.hb_activity.specs.declared.activities.Activity.TheVariants as at
@@ -52,6 +52,7 @@ DoesIn meta line id page next = IsLiveAnd page (λ live. DoesBy meta line id liv
 abbrev pub IsAtCommand : Meta → Page → Command → Type 0
 IsAtCommand meta page (Insert rec) = HasRecordsIn meta page rec.key
 IsAtCommand meta page (Delete point) = HasRecordsIn meta page point
+IsAtCommand meta page (Change changed) = HasRecordsIn meta page changed.key
 IsAtCommand meta page (Lookup point) = HasRecordsIn meta page point
 IsAtCommand meta page (Search area) = ⊥
 

@@ -6,8 +6,9 @@ use Rattle.std.specs.Prelude.{◌≡◌, ◌⊎◌, ℕ, Bool, ◌<◌, ◌≤�
 use Rattle.hb_space.specs.declared.records.Record.{Record}
 use Rattle.hb_frag.specs.declared.pages.LivePage.{LivePage}
 use Rattle.hb_ops.specs.declared.operations.Op.TheVariants.{Put, Del}
+use Rattle.hb_ops.specs.declared.operations.Op.TheVariants as ops
 use Rattle.hb_set.specs.declared.commands.Command.{Command}
-use Rattle.hb_set.specs.declared.commands.Command.TheVariants.{Insert, Delete, Lookup, Search}
+use Rattle.hb_set.specs.declared.commands.Command.TheVariants.{Insert, Delete, Change, Lookup, Search}
 use Rattle.hb_set.specs.declared.commands.Reply.TheVariants as replies
 use Rattle.hb_set.specs.declared.scripts.Answered.{Answered}
 use Rattle.hb_set.specs.declared.scripts.Line.{Line}
@@ -66,7 +67,7 @@ pub record FindsNoRoom (s : Sight) (line : Line) (rec : Record) (id : ℕ) (page
   pub full : s.meta.dcap < weight_of (put_page rec page).frag
   pub deed_is : deed ≡ moves_to (SessionSplit line id) []
 
--- A delete of a point that is there, and of one that isn't. A page that is thin then is to be merged.
+-- A delete of a point that is there. A page that is thin then is to be merged.
 abbrev pub merges_due : LivePage → List ℕ → ℕ → List Job
 merges_due page p capacity = if is_thin (weight_of (del_page p page).frag) capacity then record { kind = Merge; level = 1; point = p } ∷ [] else []
 
@@ -75,6 +76,14 @@ pub record Deletes (s : Sight) (line : Line) (p : List ℕ) (id : ℕ) (page : L
   pub there : StandsThere page p found
   pub deed_is : deed ≡ takes_effect s.place line replies.Done (Some (Del id p)) (merges_due page p s.meta.dcap)
 
+-- A change of a point that is there. It takes the page's record away for another, so the page weighs what it weighed: none is full, and none
+-- is thin that wasn't.
+pub record Changes (s : Sight) (line : Line) (changed : Record) (id : ℕ) (page : LivePage) (deed : Deed) : Type 0 where
+  pub found : Record
+  pub there : StandsThere page changed.key found
+  pub deed_is : deed ≡ takes_effect s.place line replies.Done (Some (ops.Change id changed)) []
+
+-- And a delete or a change of one that isn't there.
 pub record FindsNothing (s : Sight) (line : Line) (p : List ℕ) (page : LivePage) (deed : Deed) : Type 0 where
   pub absent : StandsNot page p
   pub deed_is : deed ≡ takes_effect s.place line replies.Absent None []
@@ -93,6 +102,7 @@ pub record Misses (s : Sight) (line : Line) (p : List ℕ) (page : LivePage) (de
 abbrev pub DoesThere : Sight → Line → Command → ℕ → LivePage → Deed → Type 0
 DoesThere s line (Insert rec) id page deed = FindsTwin s line rec page deed ⊎ Inserts s line rec id page deed ⊎ FindsNoRoom s line rec id page deed
 DoesThere s line (Delete point) id page deed = Deletes s line point id page deed ⊎ FindsNothing s line point page deed
+DoesThere s line (Change changed) id page deed = Changes s line changed id page deed ⊎ FindsNothing s line changed.key page deed
 DoesThere s line (Lookup point) id page deed = FindsBody s line point page deed ⊎ Misses s line point page deed
 DoesThere s line (Search area) id page deed = ⊥
 

@@ -27,7 +27,7 @@ use hb_space::form::BMAX;
 use hb_space::{Body, Point, Record};
 use hb_view::PageView;
 
-/// What the step of a session's walk comes to that has an insert, a delete or a lookup in hand, and latched the page of the
+/// What the step of a session's walk comes to that has an insert, a delete, a change or a lookup in hand, and latched the page of the
 /// number `id`.
 pub fn descend(state: Activity, id: u32, view: PageView<'_>, meta: &Meta) -> Next
     requires layout { IsLayout meta.now }
@@ -72,6 +72,7 @@ fn does_there(line: Line, id: u32, view: &PageView<'_>, meta: &Meta) -> Next
     match command {
         Command::Insert(rec) => insert(number, session, rec, id, view, meta),
         Command::Delete(point) => delete(number, point, id, view, meta),
+        Command::Change(rec) => change(number, rec, id, view, meta),
         Command::Lookup(point) => lookup(number, &point, view, meta),
         Command::Search(_) => unreachable!(),
     }
@@ -186,6 +187,17 @@ fn is_thin_without(view: &PageView<'_>, meta: &Meta, point: &Point) -> bool
         is_thin(weight.saturating_sub(1), meta.dcap)
     } else {
         is_thin(weight, meta.dcap)
+    }
+}
+
+/// A change gives the record of its point another body, where it is there. The page weighs as much as before.
+fn change(number: u32, rec: Record, id: u32, view: &PageView<'_>, meta: &Meta) -> Next
+    requires { HasRecordsIn meta.now view.now rec.key }
+    ensures { (session : ℕ) → DoesIn meta.now (line_with number session (commands.Change rec)) id view.now result }
+{
+    match found_at(view, meta, &rec.key) {
+        Some(_) => Next::takes_effect(number, Reply::Done, Some(Op::Change { page: id, rec })),
+        None => Next::takes_effect(number, Reply::Absent, None),
     }
 }
 

@@ -6,7 +6,7 @@ use Rattle.hb_frag.specs.declared.pages.LivePage.{LivePage}
 use Rattle.hb_frag.specs.declared.pages.Page.{Page}
 use Rattle.hb_layout.specs.declared.meta.Meta.{Meta}
 use Rattle.hb_ops.specs.declared.operations.Op.{Op}
-use Rattle.hb_ops.specs.declared.operations.Op.TheVariants.{Put, Del, Extract, Post, Merge, Grow}
+use Rattle.hb_ops.specs.declared.operations.Op.TheVariants.{Put, Del, Change, Extract, Post, Merge, Grow}
 use Rattle.hb_ops.specs.Files.{FileState}
 use Rattle.hb_ops.specs.Operations.{change_of}
 use Rattle.hb_ops.specs.Sound.{IsSound}
@@ -26,6 +26,8 @@ op_pages (Put id rec) meta (Some page) second third = refl
 op_pages (Put id rec) meta None second third = refl
 op_pages (Del id point) meta (Some page) second third = refl
 op_pages (Del id point) meta None second third = refl
+op_pages (Change id rec) meta (Some page) second third = refl
+op_pages (Change id rec) meta None second third = refl
 op_pages (Extract source fresh path cuts free_after) meta (Some page) second third = refl
 op_pages (Extract source fresh path cuts free_after) meta None second third = refl
 op_pages (Post parent at inner area) meta (Some page) second third = refl

@@ -6,7 +6,7 @@ use Rattle.hb_layout.specs.Limits.{IsLayout}
 use Rattle.hb_layout.specs.declared.meta.Meta.{Meta}
 use Rattle.hb_ops.specs.Sound.{FitsFile}
 use Rattle.hb_set.specs.declared.commands.Command.{Command}
-use Rattle.hb_set.specs.declared.commands.Command.TheVariants.{Insert, Delete, Lookup, Search}
+use Rattle.hb_set.specs.declared.commands.Command.TheVariants.{Insert, Delete, Change, Lookup, Search}
 use Rattle.hb_activity.specs.declared.activities.Activity.{Activity}
 use Rattle.hb_activity.specs.declared.activities.Activity.TheVariants as at
 use Rattle.hb_activity.specs.declared.deciding.Next.{Next}
@@ -37,6 +37,7 @@ abbrev pub SearchesInside : LivePage → Command → List Area → Type 0
 SearchesInside page (Search area) rest = MatchOption (goal_of (Search area) rest) ⊥ (Holds page.area)
 SearchesInside page (Insert rec) rest = ⊥
 SearchesInside page (Delete point) rest = ⊥
+SearchesInside page (Change changed) rest = ⊥
 SearchesInside page (Lookup point) rest = ⊥
 
 -- What the decider may be asked: a step of a session that walks for a search.

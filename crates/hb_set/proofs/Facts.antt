@@ -3,3 +3,4 @@ pub mod OrderLaws
 pub mod TextOrderLaws
 pub mod ScriptLaws
 pub mod SizeLaws
+pub mod EditLaws

@@ -3,17 +3,17 @@ use Rattle.std.proofs.Common.{◌≡◌, ℕ, suc, List, [], ◌∷◌, length, 
 use Rattle.std.specs.List.{insert, remove}
 use Rattle.std.specs.declared.alloc.Global.{Global}
 use Rattle.std.specs.FinMap as map
-use Rattle.std.proofs.Math.ListN.{get_or-map}
+use Rattle.std.proofs.Math.ListN.{get_or-map, set}
 use Rattle.std.proofs.lemmas.List.{length-map}
 use Rattle.std.proofs.lemmas.Cmp.{nat_list_cmp_total}
 use Rattle.hb_space.specs.Points.{point_cmp}
 use Rattle.hb_space.specs.declared.records.Record.{Record}
 use Rattle.hb_space.specs.Boxes.{Area, holds}
-use Rattle.hb_set.specs.declared.commands.Command.TheVariants.{Insert, Delete, Lookup, Search}
+use Rattle.hb_set.specs.declared.commands.Command.TheVariants.{Insert, Delete, Change, Lookup, Search}
 use Rattle.hb_set.specs.declared.commands.Reply.TheVariants.{Done, Duplicate, Absent, Found, Missing, Within}
 use Rattle.hb_set.specs.Machine.{RecordSet, record_of, set_records, HasAttributes, Answers, if_there, found_or_missing, reply_of}
 use Rattle.hb_set.specs.Kept.{records_behind, entries_behind, PointsRise, point_behind, body_behind}
-use Rattle.hb_lemmas.proofs.SortedEntries.{entries_are, get_at, get_gap, map_insert, map_remove}
+use Rattle.hb_lemmas.proofs.SortedEntries.{entries_are, get_at, get_gap, map_insert, map_remove, map_set}
 use Rattle.hb_lemmas.specs.Places.{IsPlaceOf, IsGapFor}
 use Rattle.hb_space.proofs.Facts.PointOrder.{exact_points}
 
@@ -68,6 +68,20 @@ pub delete_absent : (hs : List (Box Record Global)) (p : List ℕ) (i : ℕ) →
 delete_absent hs p i rise gap =
     let none = get_gap nat_list_cmp_total point_behind body_behind hs p i rise gap in
     (sym (ap (λ o. if_there o Done Absent) none), sym (ap (λ o. if_there o (map.remove (set_behind hs) p) (set_behind hs)) none))
+
+-- a change: the handle at the point's place has the body, and is of the same point
+pub change_done : (hs : List (Box Record Global)) (r : Record) (n : Box Record Global) (i : ℕ) → PointsRise hs → IsPlaceOf point_behind hs r.key i → point_behind n ≡ r.key → body_behind n ≡ r.body → Answers (set_behind hs) (Change r) Done (set_behind (set hs i n))
+change_done hs r n i rise at key body =
+    let found = (there hs r.key i rise at).1 in
+    let placed : IsPlaceOf point_behind hs (point_behind n) i = subst (λ (p : List ℕ). IsPlaceOf point_behind hs p i) (sym key) at in
+    (sym (ap (λ o. if_there o Done Absent) found), map_set nat_list_cmp_total point_behind body_behind hs n i rise placed
+        ∙ (λ j. map.insert (set_behind hs) (key j) (body j))
+        ∙ sym (ap (λ o. if_there o (map.insert (set_behind hs) r.key r.body) (set_behind hs)) found))
+
+pub change_absent : (hs : List (Box Record Global)) (r : Record) (i : ℕ) → PointsRise hs → IsGapFor point_cmp point_behind hs r.key i → Answers (set_behind hs) (Change r) Absent (set_behind hs)
+change_absent hs r i rise gap =
+    let none = get_gap nat_list_cmp_total point_behind body_behind hs r.key i rise gap in
+    (sym (ap (λ o. if_there o Done Absent) none), sym (ap (λ o. if_there o (map.insert (set_behind hs) r.key r.body) (set_behind hs)) none))
 
 -- a lookup
 pub lookup_found : (hs : List (Box Record Global)) (p : List ℕ) (i : ℕ) (h : Box Record Global) → PointsRise hs → IsPlaceOf point_behind hs p i → h ≡ get_or hs i h → Found h.value.body ≡ reply_of (Lookup p) (set_behind hs)

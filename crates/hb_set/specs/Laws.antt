@@ -1,8 +1,13 @@
 -- The laws of the machine, of legal orders and of runs, as statements.
-use Rattle.std.specs.Prelude.{◌≡◌, List, [], ◌∷◌, ◌++◌, length}
+use Rattle.std.specs.Prelude.{◌≡◌, ◌≢◌, List, [], ◌∷◌, ◌++◌, length, Some}
+use Rattle.std.specs.Option.{is_some}
+use Rattle.std.specs.FinMap as map
+use Rattle.hb_space.specs.Edits.{Edit}
+use Rattle.hb_set.specs.declared.commands.Command.{Command}
+use Rattle.hb_set.specs.declared.commands.Reply.TheVariants.{Done}
 use Rattle.hb_set.specs.declared.scripts.Line.{Line}
 use Rattle.hb_set.specs.declared.scripts.Answered.{Answered}
-use Rattle.hb_set.specs.Machine.{RecordSet, reply_of, set_after}
+use Rattle.hb_set.specs.Machine.{RecordSet, edit_asked, edited, reply_of, set_after}
 use Rattle.hb_set.specs.Order.{Entry, AreReplies, result_of, order_lines, KeepsSessions, IsLegalOrder, with_entry, entries_of, AreRising, IsAnswerTo, Ran}
 
 -- lists of the same lines that both have the machine's replies are one, with one result
@@ -50,3 +55,9 @@ RunsAreLegal = (m : RecordSet) (lines : List Line) (answered : List Answered) (n
 -- a run has an answer for each line
 abbrev pub RunsAnswerEach : Type 0
 RunsAnswerEach = (m : RecordSet) (lines : List Line) (answered : List Answered) (n : RecordSet) → Ran m lines answered n → length lines ≡ length answered
+
+-- A command that edits a record is done exactly where its point is there, or isn't, as the edit asks, and then the point has that body, or
+-- none; else nothing changes.
+abbrev pub EditsAreDone : Type 0
+EditsAreDone = (m : RecordSet) (c : Command) (e : Edit) → edit_asked c ≡ Some e →
+    ((is_some (map.get m e.point) ≡ e.there → (reply_of c m ≡ Done) × (set_after c m ≡ edited e m)) × (is_some (map.get m e.point) ≢ e.there → (reply_of c m ≢ Done) × (set_after c m ≡ m)))

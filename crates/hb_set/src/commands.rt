@@ -9,6 +9,8 @@ pub enum Command {
     Insert(Record),
     /// Takes away the record of the point.
     Delete(Point),
+    /// Gives the record of the point this body, if it is there.
+    Change(Record),
     /// Asks for the body under the point.
     Lookup(Point),
     /// Asks for all records that the box holds.
@@ -18,11 +20,11 @@ pub enum Command {
 /// What a command is answered.
 #[derive(Debug, Drop)]
 pub enum Reply {
-    /// An insert or a delete was done.
+    /// An insert, a delete or a change was done.
     Done,
     /// The point of an insert is there.
     Duplicate,
-    /// The point of a delete isn't there.
+    /// The point of a delete or a change isn't there.
     Absent,
     /// The body under the point of a lookup.
     Found(Body),
@@ -57,9 +59,8 @@ impl Command {
         ensures { result ≡ attributes self.now }
     {
         match self {
-            Command::Insert(added) => added.key.values().len(),
-            Command::Delete(point) => point.values().len(),
-            Command::Lookup(point) => point.values().len(),
+            Command::Insert(record) | Command::Change(record) => record.key.values().len(),
+            Command::Delete(point) | Command::Lookup(point) => point.values().len(),
             Command::Search(area) => area.lo().values().len(),
         }
     }

@@ -6,7 +6,7 @@ ghost use Rattle.std.specs.FinMap as map;
 ghost use Rattle.hb_set.specs.declared.commands.Command.{Command};
 ghost use Rattle.hb_set.specs.declared.commands.Reply.{Reply};
 ghost use Rattle.hb_set.specs.Machine.{Answers, HasAttributes, RecordSet, attributes};
-ghost use Rattle.hb_set.specs.Laws.{OneAnswer, PartsAreLegal, ResultIsByParts, RepliesAreByParts, RepliesGrow, ResultGrows, TextKeepsSessions, EntriesGrow, RunsGrow, RunsReply, RunsAreLegal, RunsAnswerEach};
+ghost use Rattle.hb_set.specs.Laws.{EditsAreDone, OneAnswer, PartsAreLegal, ResultIsByParts, RepliesAreByParts, RepliesGrow, ResultGrows, TextKeepsSessions, EntriesGrow, RunsGrow, RunsReply, RunsAreLegal, RunsAnswerEach};
 ghost use Rattle.hb_set.specs.Sizes.{SizesFollowReplies};
 
 /// One machine, one answer: the lines determine the replies, and the replies the result.
@@ -51,4 +51,9 @@ pub fn attributes_stay()
     ensures empty { (k : ℕ) → HasAttributes k map.empty }
     ensures answered { (m : RecordSet) (c : Command) (r : Reply) (n : RecordSet) →
         Answers m c r n → HasAttributes (attributes c) m → HasAttributes (attributes c) n }
+{}
+
+/// An insert, a delete and a change: each is done where its point is as it asks, and then leaves its body there, or none.
+pub fn edits_are_done()
+    ensures { EditsAreDone }
 {}

@@ -13,7 +13,7 @@ use std::marker::Model;
 
 /// A set of records: at most one for each point.
 ///
-/// A lookup is a binary search, and an insert and a delete move the handles of the later records.
+/// A lookup is a binary search, and so is a change; an insert and a delete move the handles of the later records.
 /// A search goes over the records whose first value lies between the box's least and greatest one,
 /// and from a record outside the box leaps over those that lie outside for the same reason.
 #[derive(Debug, Drop)]
@@ -76,6 +76,7 @@ impl Set {
         match command {
             Command::Insert(record) => self.insert(record),
             Command::Delete(point) => self.delete(point),
+            Command::Change(record) => self.change(record),
             Command::Lookup(point) => self.lookup(point),
             Command::Search(area) => self.search(area),
         }
@@ -113,6 +114,20 @@ impl Set {
         match place_of(&self.records, point) {
             Ok(place) => {
                 self.records.remove(place);
+                Reply::Done
+            }
+            Err(_) => Reply::Absent,
+        }
+    }
+
+    fn change(&mut self, changed: &Record) -> Reply
+        ensures answers { Answers self.old (Command.Change changed.now) result self.new }
+        ensures memory { result ≢ Reply.NoMemory }
+    {
+        match place_of(&self.records, &changed.key) {
+            Ok(place) => {
+                let handle = &mut self.records[place];
+                handle.body = changed.body.copy();
                 Reply::Done
             }
             Err(_) => Reply::Absent,

@@ -10,7 +10,7 @@ use Rattle.hb_frag.specs.Trees.{Tree, Tip}
 use Rattle.hb_ops.specs.declared.operations.Op.TheVariants.{Merge}
 use Rattle.hb_ops.specs.Files.{FileState, if_live, live_page}
 use Rattle.hb_ops.specs.Merging.{FitsMerge, kept_page, released}
-use Rattle.hb_ops.specs.Operations.{Change, effect_of}
+use Rattle.hb_ops.specs.Operations.{FileChange, effect_of}
 use Rattle.hb_ops.specs.Sound.{IsSound}
 use Rattle.hb_ops.proofs.Facts.AllowedOps.{same_allowed, same_change}
 use Rattle.hb_ops.proofs.Facts.PlacedLaws.{placed}
@@ -40,7 +40,7 @@ merged sound changes s parent keep gone may =
       changes = three;
       fits = same_allowed op s.meta s.meta (live_page s parent) (Some three.above) (live_page s keep) (Some three.kept) (live_page s gone) (Some three.going)
           refl three.above_live three.kept_live three.gone_live may.allowed;
-      meta = ap (λ (c : Change). c.meta) (same_change op s.meta s.meta (live_page s parent) (Some three.above) (live_page s keep) (Some three.kept) (live_page s gone) (Some three.going)
+      meta = ap (λ (c : FileChange). c.meta) (same_change op s.meta s.meta (live_page s parent) (Some three.above) (live_page s keep) (Some three.kept) (live_page s gone) (Some three.going)
           refl three.above_live three.kept_live three.gone_live);
     }
 

@@ -7,11 +7,10 @@ use Rattle.hb_frag.specs.declared.pages.LivePage.{LivePage}
 use Rattle.hb_frag.specs.Leaves.{leaf_at}
 use Rattle.hb_ops.specs.Files.{FileState, live_page}
 use Rattle.hb_ops.specs.Sound.{IsSound}
-use Rattle.hb_ops.specs.declared.operations.Op.TheVariants.{Put, Del}
 use Rattle.hb_ops.specs.Operations.{nth_read}
-use Rattle.hb_ops.specs.LawsOfContents.{DelTakesOne, PutAddsOne}
+use Rattle.hb_ops.specs.LawsOfContents.{EditsChangeOne}
 use Rattle.hb_ops.specs.Standing.{AbsenceIsContents, RecordsAreContents}
-use Rattle.hb_sound.specs.Laws.{DelsTakeOne, EachPageHasWalks, EachPointIsHeld, LackIsContents, NoPointIsHeldTwice, PagesHaveBoxes, PutsAddOne, RecordsAreAtHome, RootHasWalks, SpaceLaws, StandingIsContents, StepsLeadFurther, TreeLaws}
+use Rattle.hb_sound.specs.Laws.{EachPageHasWalks, EachPointIsHeld, EditsChangeContents, LackIsContents, NoPointIsHeldTwice, PagesHaveBoxes, RecordsAreAtHome, RootHasWalks, SpaceLaws, StandingIsContents, StepsLeadFurther, TreeLaws}
 use Rattle.hb_sound.specs.PointWalks.{IsPointOf, IsResponsible}
 use Rattle.hb_sound.proofs.HeldOnce.{held_once}
 use Rattle.hb_sound.proofs.RecordsAtHome.{others_lack}
@@ -20,7 +19,7 @@ use Rattle.hb_sound.proofs.WalkSteps.{step_leads}
 use Rattle.hb_ops.proofs.Facts.PlacedLaws.{placed}
 use Rattle.hb_sound.proofs.HeldSomewhere.{found}
 use Rattle.hb_sound.proofs.Facts.OneLevel.{page_area}
-use Rattle.hb_ops.proofs.Facts.Contents.{del_on, put_on}
+use Rattle.hb_ops.proofs.Facts.EditOps.{is_edit, reads_its_page}
 use Rattle.hb_lemmas.proofs.Options.{one_value}
 
 module _ (trees : TreeLaws) (space : SpaceLaws) where
@@ -74,18 +73,14 @@ module _ (trees : TreeLaws) (space : SpaceLaws) where
       let here = is_responsible s p id page stands.records stands.area sound h live stands.leaf in
       absent s id page p live (sound.well_made id page live) (on_level_0 s p id page live here) (records_are_at_home s p id sound h here) stands
 
-  -- so the laws of put and delete hold of every page
-  pub puts_add_one : PutAddsOne → PutsAddOne
-  puts_add_one adds s id rec sound h allowed =
-      let on = put_on id rec s.meta (live_page s id) (nth_read s (Put id rec) 1) (nth_read s (Put id rec) 2) allowed in
-      let here = is_responsible s rec.key id on.0 on.2.absent.records on.2.absent.area sound h on.1 on.2.absent.leaf in
-      adds s id rec allowed h.attributes (records_are_at_home s rec.key id sound h here)
-
-  pub dels_take_one : DelTakesOne → DelsTakeOne
-  dels_take_one takes s id point sound h allowed =
-      let on = del_on id point s.meta (live_page s id) (nth_read s (Del id point) 1) (nth_read s (Del id point) 2) allowed in
-      let here = is_responsible s point id on.0 on.2.there.records on.2.there.area sound h on.1 on.2.there.leaf in
-      takes s id point allowed h.attributes (records_are_at_home s point id sound h here)
+  -- so the law of edits holds of every page
+  pub edits_change_contents : EditsChangeOne → EditsChangeContents
+  edits_change_contents edits s op id e is sound h allowed has =
+      let edit = is_edit op id e is in
+      let on = edit.allowed s.meta (nth_read s op 0) (nth_read s op 1) (nth_read s op 2) allowed in
+      let live = sym (reads_its_page s op id e edit) ∙ on.1 in
+      let here = is_responsible s e.point id on.0 on.2.found.records on.2.found.area sound h live on.2.found.leaf in
+      edits s op id e is allowed has (records_are_at_home s e.point id sound h here)
 
   pub pages_have_boxes : PagesHaveBoxes
   pages_have_boxes s id page sound some few live = page_area trees s sound.well_made sound.siblings sound.covered (space.area s.meta.k some few) id page live

@@ -1,5 +1,5 @@
 -- What every sound file has, as laws, and what a fully posted one has, in which nothing is late to be posted.
-use Rattle.std.specs.Prelude.{◌≡◌, ◌↔◌, ℕ, ◌<◌, ◌≤◌, List, All, Contains, length, IsSome, Some, None, ◌+◌}
+use Rattle.std.specs.Prelude.{◌≡◌, ◌↔◌, ℕ, ◌<◌, ◌≤◌, List, All, Contains, length, IsSome, Option, Some, None, ◌+◌}
 use Rattle.std.specs.FinMap as finite
 use Rattle.hb_space.specs.declared.form.TheConstants.{KMAX}
 use Rattle.hb_space.specs.declared.records.Record.{Record}
@@ -8,9 +8,11 @@ use Rattle.hb_space.specs.Points.{IsPoint}
 use Rattle.hb_frag.specs.declared.pages.LivePage.{LivePage}
 use Rattle.hb_frag.specs.Leaves.{IsWellCut, Placed, first_at, leaves_of, DirectlyCovers}
 use Rattle.hb_frag.specs.Trees.{Tree}
-use Rattle.hb_ops.specs.declared.operations.Op.TheVariants.{Put, Del}
+use Rattle.hb_ops.specs.declared.operations.Op.{Op}
+use Rattle.hb_space.specs.Edits.{Edit, with_body_at}
+use Rattle.std.specs.Option.{is_some}
 use Rattle.hb_ops.specs.Files.{FileState, live_page, contents_of, file_records}
-use Rattle.hb_ops.specs.Operations.{IsAllowed, effect_of}
+use Rattle.hb_ops.specs.Operations.{IsAllowed, OpHas, edit_of, effect_of}
 use Rattle.hb_ops.specs.LawsOfContents.{OthersLack}
 use Rattle.hb_ops.specs.Sound.{IsSound}
 use Rattle.hb_ops.specs.Settled.{HasChild, HasLoneRoot, IsSettled}
@@ -66,14 +68,14 @@ LackIsContents = (s : FileState) (p : List ℕ) (id : ℕ) (page : LivePage) →
 abbrev pub PagesHaveBoxes : Type 0
 PagesHaveBoxes = (s : FileState) (id : ℕ) (page : LivePage) → IsSound s → 1 ≤ s.meta.k → s.meta.k ≤ KMAX → live_page s id ≡ Some page → IsArea page.area
 
--- An allowed put adds exactly one record to the contents of a sound file, and an allowed delete takes exactly one away.
-abbrev pub PutsAddOne : Type 0
-PutsAddOne = (s : FileState) (id : ℕ) (rec : Record) → IsSound s → IsPointOf s rec.key → IsAllowed s (Put id rec) →
-    (finite.get (contents_of s) rec.key ≡ None) × (contents_of (effect_of s (Put id rec)) ≡ finite.insert (contents_of s) rec.key rec.body)
+-- An allowed put, delete or change edits exactly one record of the contents of a sound file: its point was there where the edit wants it
+-- there, and has the edit's body afterwards, or none.
+abbrev pub BecomesEdited : FileState → Op → Option (ℕ × Edit) → Type 0
+BecomesEdited s op None = contents_of (effect_of s op) ≡ contents_of s
+BecomesEdited s op (Some at) = (is_some (finite.get (contents_of s) at.1.point) ≡ at.1.there) × (contents_of (effect_of s op) ≡ with_body_at at.1.point at.1.body (contents_of s))
 
-abbrev pub DelsTakeOne : Type 0
-DelsTakeOne = (s : FileState) (id : ℕ) (point : List ℕ) → IsSound s → IsPointOf s point → IsAllowed s (Del id point) →
-    ((body : List ℕ) × (finite.get (contents_of s) point ≡ Some body)) × (contents_of (effect_of s (Del id point)) ≡ finite.remove (contents_of s) point)
+abbrev pub EditsChangeContents : Type 0
+EditsChangeContents = (s : FileState) (op : Op) (id : ℕ) (e : Edit) → edit_of op ≡ Some (id, e) → IsSound s → IsPointOf s e.point → IsAllowed s op → OpHas s.meta.k op → BecomesEdited s op (Some (id, e))
 
 -- In a fully posted file whose root has no sibling leaf each whole walk from the root has as many pages as the file has levels.
 abbrev pub FullyPostedWalksAreShort : Type 0

@@ -11,11 +11,12 @@ use Rattle.hb_frag.specs.Paths.{part_at}
 use Rattle.hb_frag.specs.Trees.{Tree}
 use Rattle.hb_ops.specs.declared.leaf_cuts.LeafCut.{LeafCut}
 use Rattle.hb_ops.specs.declared.operations.Op.{Op}
-use Rattle.hb_ops.specs.declared.operations.Op.TheVariants.{Put, Del, Extract, Grow}
+use Rattle.hb_ops.specs.declared.operations.Op.TheVariants.{Extract, Grow}
 use Rattle.hb_ops.specs.Extracting.{fresh_page, source_page}
 use Rattle.hb_ops.specs.Files.{FileState, contents_of, live_page, page_of}
 use Rattle.hb_ops.specs.Allocating.{new_root}
-use Rattle.hb_ops.specs.Operations.{IsAllowed, IsLicensed, OpHas, effect_of}
+use Rattle.hb_ops.specs.Operations.{IsAllowed, IsLicensed, OpHas, edit_of, effect_of}
+use Rattle.hb_sound.specs.Laws.{BecomesEdited}
 use Rattle.hb_ops.specs.Sound.{IsSound}
 use Rattle.hb_sound.specs.PointWalks.{HasOn, IsPointOf}
 
@@ -91,11 +92,9 @@ OperationsKeepSound = (s : FileState) (op : Op) → IsSound s → IsLayout s.met
 abbrev pub OperationsKeepLayout : Type 0
 OperationsKeepLayout = (s : FileState) (op : Op) → IsLayout s.meta → IsAllowed s op → IsLayout (effect_of s op).meta
 
--- A put adds one record to the contents, a delete takes one away, and the others leave them as they are.
+-- A put, a delete and a change edit one record of the contents, and the others leave them as they are.
 abbrev pub ContentsBecome : FileState → Op → Type 0
-ContentsBecome s (Put id rec) = (finite.get (contents_of s) rec.key ≡ None) × (contents_of (effect_of s (Put id rec)) ≡ finite.insert (contents_of s) rec.key rec.body)
-ContentsBecome s (Del id point) = ((body : List ℕ) × (finite.get (contents_of s) point ≡ Some body)) × (contents_of (effect_of s (Del id point)) ≡ finite.remove (contents_of s) point)
-ContentsBecome s op = contents_of (effect_of s op) ≡ contents_of s
+ContentsBecome s op = BecomesEdited s op (edit_of op)
 
 abbrev pub OperationsKeepContents : Type 0
 OperationsKeepContents = (s : FileState) (op : Op) → IsSound s → IsLayout s.meta → OpHas s.meta.k op → IsAllowed s op → IsLicensed s op → ContentsBecome s op

@@ -1,7 +1,7 @@
 //! What follows of a sound file, whatever was done to it. Each law is the contract of a function
 //! that does nothing: a caller learns it by the call.
 
-ghost use Rattle.hb_sound.specs.Laws.{DelsTakeOne, EachPageHasWalks, EachPointIsHeld, LackIsContents, NoPointIsHeldTwice, PagesHaveBoxes, PutsAddOne, RecordsAreAtHome, RecordsStandOnce, RootHasWalks, SpaceLaws, StandingIsContents, StepsLeadFurther, TreeLaws, WalksAreOne, NoOtherParent, FullyPostedWalksAreShort};
+ghost use Rattle.hb_sound.specs.Laws.{EachPageHasWalks, EachPointIsHeld, EditsChangeContents, LackIsContents, NoPointIsHeldTwice, PagesHaveBoxes, RecordsAreAtHome, RecordsStandOnce, RootHasWalks, SpaceLaws, StandingIsContents, StepsLeadFurther, TreeLaws, WalksAreOne, NoOtherParent, FullyPostedWalksAreShort};
 ghost use Rattle.hb_sound.specs.LawsOfOperations.{GrowthChangesOne, GrowthKeepsContents, GrowthKeepsDirect, GrowthKeepsSound, OperationsKeepContents, OperationsKeepLayout, OperationsKeepSound, SplitsChangeTwo, SplitsKeepContents, SplitsKeepSound, SplitsPartDirect};
 ghost use Rattle.hb_sound.specs.LawsOfMerges.{FreePagesAreNotNamed, MergesChangeThree, MergesJoinDirect, MergesKeepContents, MergesKeepSound, MergesRename};
 ghost use Rattle.hb_sound.specs.LawsOfPostings.{PostingsChangeParent, PostingsKeepContents, PostingsKeepDirect, PostingsKeepSound, PostingsName};
@@ -11,8 +11,8 @@ use hb_frag::laws::{
     parts_are_stretches, renaming_changes_names_alone, ways_lead_to_siblings,
 };
 use hb_ops::{
-    changed_pages_are_well_made, delete_takes_one_record, put_adds_one_record,
-    puts_and_deletes_keep_a_file_sound, what_stands_is_in_the_contents,
+    changed_pages_are_well_made, edits_change_one_record, edits_keep_a_file_sound,
+    what_stands_is_in_the_contents,
 };
 use hb_space::laws::{common_box_is_a_box, held_is_a_point, whole_space_holds_every_point};
 
@@ -79,15 +79,13 @@ pub fn what_stands_is_what_the_contents_have()
     what_stands_is_in_the_contents();
 }
 
-/// In a sound file an allowed put adds exactly one record to the contents, and an allowed delete takes
-/// exactly one away, whatever other pages the file has.
-pub fn puts_and_deletes_change_one_record()
-    ensures put { PutsAddOne }
-    ensures del { DelsTakeOne }
+/// In a sound file an allowed put adds exactly one record to the contents, an allowed delete takes
+/// exactly one away, and a change gives one another body, whatever other pages the file has.
+pub fn edits_change_the_contents()
+    ensures { EditsChangeContents }
 {
     trees_and_space();
-    put_adds_one_record();
-    delete_takes_one_record();
+    edits_change_one_record();
 }
 
 /// The box of each page in use is a box.
@@ -196,8 +194,8 @@ pub fn operations_keep_a_file_sound()
     trees_and_space();
     held_is_a_point();
     each_page_has_a_box();
-    puts_and_deletes_keep_a_file_sound();
-    puts_and_deletes_change_one_record();
+    edits_keep_a_file_sound();
+    edits_change_the_contents();
     a_split_keeps_a_file_sound();
     a_posting_keeps_a_file_sound();
     a_merge_keeps_a_file_sound();

@@ -1,3 +1,4 @@
 pub mod Points
 pub mod Boxes
 pub mod Actors
+pub mod Edits

@@ -45,6 +45,7 @@ pub record IsPlanned (st : StoreState) (parent : ℕ) (at : List Side) (inner : 
 abbrev pub IsLicensedHere : StoreState → Op → Type 0
 IsLicensedHere st (ops.Put id rec) = IsBody rec.body
 IsLicensedHere st (ops.Del id point) = Unit {0}
+IsLicensedHere st (ops.Change id rec) = IsBody rec.body
 IsLicensedHere st (ops.Extract source fresh path cuts free_after) = IsNext st fresh free_after
 IsLicensedHere st (ops.Post parent at inner area) = IsPlanned st parent at inner area
 IsLicensedHere st (ops.Merge parent keep gone) = BoxesMatch (ops.Merge parent keep gone) (live_here st parent) (live_here st keep) (live_here st gone)

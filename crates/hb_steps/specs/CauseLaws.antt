@@ -4,7 +4,7 @@ use Rattle.hb_space.specs.declared.records.Record.{Record}
 use Rattle.hb_set.specs.declared.commands.Reply.{Reply}
 use Rattle.hb_set.specs.declared.commands.Reply.TheVariants as replies
 use Rattle.hb_set.specs.declared.commands.Command.{Command}
-use Rattle.hb_set.specs.declared.commands.Command.TheVariants.{Insert, Delete, Lookup, Search}
+use Rattle.hb_set.specs.declared.commands.Command.TheVariants.{Insert, Delete, Change, Lookup, Search}
 use Rattle.hb_set.specs.declared.scripts.Line.{Line}
 use Rattle.hb_activity.specs.declared.dropping.DropWhy.{DropWhy}
 use Rattle.hb_activity.specs.declared.dropping.DropWhy.TheVariants as drops
@@ -53,6 +53,7 @@ NoMemoryByCause = (m : Machine) (actor number : ℕ) (new : Machine) → Machine
 abbrev pub MayLackMemory : Machine → ℕ → Line → Command → Type 0
 MayLackMemory m actor line (Lookup point) = ⊥
 MayLackMemory m actor line (Delete point) = ⊥
+MayLackMemory m actor line (Change changed) = ⊥
 MayLackMemory m actor line (Search area) = Unit {0}
 MayLackMemory m actor line (Insert rec) = (held : ℕ) × (m.activity actor ≡ at.SessionSplit line held)
 

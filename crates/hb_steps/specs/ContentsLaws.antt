@@ -2,7 +2,7 @@
 use Rattle.std.specs.Prelude.{◌≡◌, ◌⊎◌, ℕ, List, [], ◌∷◌, ◌++◌, Some}
 use Rattle.std.specs.FinMap as map
 use Rattle.hb_set.specs.declared.commands.Command.{Command}
-use Rattle.hb_set.specs.declared.commands.Command.TheVariants.{Insert, Delete, Lookup, Search}
+use Rattle.hb_set.specs.declared.commands.Command.TheVariants.{Insert, Delete, Change, Lookup, Search}
 use Rattle.hb_activity.specs.declared.activities.Activity.{Activity}
 use Rattle.hb_steps.specs.declared.outcomes.Outcome.{Outcome}
 use Rattle.hb_activity.specs.Classes.{line_in_hand}
@@ -41,6 +41,7 @@ ContentsFollowOrder = (m : Machine) (files after : Files) (actor : ℕ) (outcome
 abbrev pub ChangesAt : Command → List ℕ → Type 0
 ChangesAt (Insert rec) p = p ≡ rec.key
 ChangesAt (Delete point) p = p ≡ point
+ChangesAt (Change changed) p = p ≡ changed.key
 ChangesAt (Lookup point) p = ⊥
 ChangesAt (Search area) p = ⊥
 

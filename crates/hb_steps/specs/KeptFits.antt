@@ -6,7 +6,7 @@ use Rattle.hb_frag.specs.declared.leaves.Leaf.TheVariants.{Sibling}
 use Rattle.hb_frag.specs.declared.pages.LivePage.{LivePage}
 use Rattle.hb_frag.specs.Leaves.{leaf_at}
 use Rattle.hb_set.specs.declared.commands.Command.{Command}
-use Rattle.hb_set.specs.declared.commands.Command.TheVariants.{Insert, Delete, Lookup, Search}
+use Rattle.hb_set.specs.declared.commands.Command.TheVariants.{Insert, Delete, Change, Lookup, Search}
 use Rattle.hb_set.specs.declared.scripts.Line.{Line}
 use Rattle.hb_activity.specs.declared.jobs.Job.{Job}
 use Rattle.hb_activity.specs.declared.activities.Activity.{Activity}
@@ -24,6 +24,7 @@ IsBoxOf k area = IsArea area × (length area.lo ≡ k)
 abbrev pub CommandFits : ℕ → Command → Type 0
 CommandFits k (Insert rec) = length rec.key ≡ k
 CommandFits k (Delete point) = length point ≡ k
+CommandFits k (Change changed) = length changed.key ≡ k
 CommandFits k (Lookup point) = length point ≡ k
 CommandFits k (Search area) = IsBoxOf k area
 

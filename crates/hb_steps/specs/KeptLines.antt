@@ -1,7 +1,7 @@
 -- What every machine keeps of its script's lines, of what its file says of itself, and of the log's area.
 use Rattle.std.specs.Prelude.{◌≡◌, ◌<◌, ◌≤◌, ◌^◌, ℕ, All, IfSome}
 use Rattle.hb_set.specs.declared.commands.Command.{Command}
-use Rattle.hb_set.specs.declared.commands.Command.TheVariants.{Insert, Delete, Lookup, Search}
+use Rattle.hb_set.specs.declared.commands.Command.TheVariants.{Insert, Delete, Change, Lookup, Search}
 use Rattle.hb_set.specs.declared.scripts.Line.{Line}
 use Rattle.hb_activity.specs.Classes.{line_in_hand}
 use Rattle.hb_steps.specs.Machines.{Machine}
@@ -13,6 +13,7 @@ use Rattle.hb_space.specs.Points.{IsBody}
 abbrev pub HasBody : Command → Type 0
 HasBody (Insert rec) = IsBody rec.body
 HasBody (Delete point) = Unit {0}
+HasBody (Change changed) = IsBody changed.body
 HasBody (Lookup point) = Unit {0}
 HasBody (Search area) = Unit {0}
 

@@ -3,7 +3,7 @@ use Rattle.std.specs.Prelude.{◌≡◌, ◌⊎◌, ℕ, List, Option, Some, Non
 use Rattle.hb_frag.specs.declared.pages.LivePage.{LivePage}
 use Rattle.hb_space.specs.declared.records.Record.{Record}
 use Rattle.hb_set.specs.declared.commands.Command.{Command}
-use Rattle.hb_set.specs.declared.commands.Command.TheVariants.{Insert, Delete, Lookup, Search}
+use Rattle.hb_set.specs.declared.commands.Command.TheVariants.{Insert, Delete, Change, Lookup, Search}
 use Rattle.hb_set.specs.declared.scripts.Line.{Line}
 use Rattle.hb_activity.specs.declared.wanting.Wanted.{Wanted}
 use Rattle.hb_activity.specs.declared.activities.Activity.{Activity}
@@ -32,6 +32,7 @@ RowAlone other s deed = ⊥
 abbrev pub DoesHere : Sight → Line → Command → List Area → List Record → ℕ → LivePage → List ℕ → Deed → Type 0
 DoesHere s line (Insert rec) rest found id page p deed = DoesThere s line (Insert rec) id page deed
 DoesHere s line (Delete point) rest found id page p deed = DoesThere s line (Delete point) id page deed
+DoesHere s line (Change changed) rest found id page p deed = DoesThere s line (Change changed) id page deed
 DoesHere s line (Lookup point) rest found id page p deed = DoesThere s line (Lookup point) id page deed
 DoesHere s line (Search area) rest found id page p deed = Gathers s line rest found page p deed
 

@@ -15,7 +15,7 @@ use Rattle.hb_layout.specs.declared.meta.Meta.{Meta}
 use Rattle.hb_layout.specs.Offsets.{file_size}
 use Rattle.hb_ops.specs.declared.operations.Op.{Op}
 use Rattle.hb_ops.specs.Files.{FileState, if_live, page_at, page_of, last_of}
-use Rattle.hb_ops.specs.Operations.{Change, IsAllowed, IsLicensed, change_of, effect_of, nth_read, reads_of, with_changed_pages}
+use Rattle.hb_ops.specs.Operations.{FileChange, IsAllowed, IsLicensed, change_of, effect_of, nth_read, reads_of, with_changed_pages}
 use Rattle.hb_log_codec.specs.Groups.{FitsGroup, Logged, group_bytes}
 use Rattle.hb_store.specs.Replay.{MayFollow, Replayed, after_group, change_in, replay, touched_read, untouched, with_page_images, is_among}
 use Rattle.hb_ops.specs.SetPages.{set_pages, has_page}
@@ -53,7 +53,7 @@ same_log d old new payloads area len written has =
 -- ---- the store after a commit
 
 -- what was changed, put into frames and let wait is what a commit makes
-pub commits_here : (op : Op) (mark : ℕ) (st new : StoreState) (change : Change) (bytes : List ℕ) → change ≡ change_here st op → new.turn ≡ st.turn → new.stopped ≡ st.stopped → new.meta ≡ change.meta
+pub commits_here : (op : Op) (mark : ℕ) (st new : StoreState) (change : FileChange) (bytes : List ℕ) → change ≡ change_here st op → new.turn ≡ st.turn → new.stopped ≡ st.stopped → new.meta ≡ change.meta
     → ((id : ℕ) → IsTrue (has_page id change.pages) → in_memory new id ≡ set_pages change.pages (in_memory st) id)
     → ((id : ℕ) → has_page id change.pages ≡ false → NoneComes st new id)
     → ((id : ℕ) → is_in_log new id ≡ (has_page id change.pages || (is_among id (reads_of op) || is_in_log st id)))
@@ -63,11 +63,11 @@ pub commits_here : (op : Op) (mark : ℕ) (st new : StoreState) (change : Change
 commits_here op mark st new change bytes is turn stopped meta made others in_log dirty log = record {
   turn = turn;
   stopped = stopped;
-  meta = meta ∙ ap (λ (c : Change). c.meta) is;
-  made = λ id on. made id (ap (λ (c : Change). has_page id c.pages) is ∙ on) ∙ ap (λ (c : Change). set_pages c.pages (in_memory st) id) is;
-  others = λ id off. others id (ap (λ (c : Change). has_page id c.pages) is ∙ off);
-  in_log = λ id. in_log id ∙ ap (λ (c : Change). has_page id c.pages || (is_among id (reads_of op) || is_in_log st id)) is;
-  dirty = λ id. dirty id ∙ ap (λ (c : Change). has_page id c.pages || is_dirty st id) is;
+  meta = meta ∙ ap (λ (c : FileChange). c.meta) is;
+  made = λ id on. made id (ap (λ (c : FileChange). has_page id c.pages) is ∙ on) ∙ ap (λ (c : FileChange). set_pages c.pages (in_memory st) id) is;
+  others = λ id off. others id (ap (λ (c : FileChange). has_page id c.pages) is ∙ off);
+  in_log = λ id. in_log id ∙ ap (λ (c : FileChange). has_page id c.pages || (is_among id (reads_of op) || is_in_log st id)) is;
+  dirty = λ id. dirty id ∙ ap (λ (c : FileChange). has_page id c.pages || is_dirty st id) is;
   area = ap (λ (l : LogState). l.area) log;
   len = ap (λ (l : LogState). l.len) log;
   written = ap (λ (l : LogState). l.written) log;
@@ -76,7 +76,7 @@ commits_here op mark st new change bytes is turn stopped meta made others in_log
 }
 
 module _ (st new : StoreState) (op : Op) (mark : ℕ) (well : MakesWell op st) (allowed : IsAllowedHere st op) (commits : Commits op mark st new) where
-  abbrev change : Change
+  abbrev change : FileChange
   change = change_here st op
 
   log_same : new.meta.log ≡ st.meta.log
@@ -216,7 +216,7 @@ module _ (st new : StoreState) (op : Op) (mark : ℕ) (well : MakesWell op st) (
 
     page_after : (q : ℕ) → page_of (last_of durable (later ++ n ∷ [])) q ≡ set_pages change.pages (page_of s) q
     page_after q =
-        ap (λ (f : FileState). page_of f q) last ∙ ap (λ (c : Change). page_at (with_changed_pages c.pages s.pages) q) (sym change_file) ∙ pages_set change.pages s.pages reach q
+        ap (λ (f : FileState). page_of f q) last ∙ ap (λ (c : FileChange). page_at (with_changed_pages c.pages s.pages) q) (sym change_file) ∙ pages_set change.pages s.pages reach q
 
     abbrev grown : Parts
     grown = record { said = p.said; payloads = p.payloads; written = p.written; waiting = p.waiting ++ logged ∷ [] }
@@ -255,7 +255,7 @@ module _ (st new : StoreState) (op : Op) (mark : ℕ) (well : MakesWell op st) (
         commits.in_log id
         ∙ ap (λ (b : Bool). H || b) (sym (in_log_all (in_memory st) (is_in_log st) (reads_of op) id reads) ∙ ap (λ (b : Bool). has_page id logged.images || b) (touched_too id) ∙ sym (set_some logged.images t.page id))
         ∙ sym (set_some change.pages (set_pages logged.images t.page) id)
-        ∙ ap (λ (c : Change). is_some (set_pages c.pages (set_pages logged.images t.page) id)) change_touched
+        ∙ ap (λ (c : FileChange). is_some (set_pages c.pages (set_pages logged.images t.page) id)) change_touched
         ∙ ap (λ (r : Replayed). is_some (r.page id)) (sym whole)
 
     in_log_more : IsInLog d (is_in_log new) grown (last_of durable (with_op durable later op))
@@ -273,7 +273,7 @@ module _ (st new : StoreState) (op : Op) (mark : ℕ) (well : MakesWell op st) (
           let is = well.change.after.layout in
           subst (λ (m : Meta). IsSameLayout p.said m) (sym commits.meta)
           (record { k = is.k ∙ was.k; pages = is.pages ∙ was.pages; log = is.log ∙ was.log; dcap = is.dcap ∙ was.dcap; icap = is.icap ∙ was.icap });
-      meta_is = ap (λ (f : FileState). f.meta) last ∙ ap (λ (c : Change). c.meta) (sym change_file) ∙ sym commits.meta;
+      meta_is = ap (λ (f : FileState). f.meta) last ∙ ap (λ (c : FileChange). c.meta) (sym change_file) ∙ sym commits.meta;
       cached = λ id page e. page_after id ∙ set_both change.pages (in_memory st) (page_of s) keeps.memory.cached id page (Commits-there op mark st new commits id page e);
       placed = λ id page b no e is_told.
           let off = or_parts (has_page id change.pages) (is_dirty st id) (sym (commits.dirty id) ∙ no) in

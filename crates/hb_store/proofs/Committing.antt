@@ -7,7 +7,7 @@ use Rattle.hb_frag.specs.declared.pages.Page.{Page}
 use Rattle.hb_layout.specs.declared.meta.Meta.{Meta}
 use Rattle.hb_ops.specs.declared.operations.Op.{Op}
 use Rattle.hb_log_codec.specs.Groups.{FitsGroup}
-use Rattle.hb_ops.specs.Operations.{BoxesMatch, Change, reads_of}
+use Rattle.hb_ops.specs.Operations.{BoxesMatch, FileChange, reads_of}
 use Rattle.hb_pool.specs.Frames.{Frame}
 use Rattle.hb_pool.specs.Pools.{IsPool}
 use Rattle.hb_wal.specs.Log.{LogState}
@@ -27,7 +27,7 @@ use Rattle.hb_store.proofs.Facts.Grouped.{good_spelled}
 use Rattle.hb_store.proofs.Remembered.{none_comes, put_made, put_marks, seen, stays_same}
 
 module _ (turn : ℕ) (meta : Meta) (log : LogState) (s : set.FinSet nat_cmp) (stopped : Bool) (pool : List (Frame (List ℕ))) (new_meta : Meta) (new_log : LogState) (t : set.FinSet nat_cmp) (new_pool : List (Frame (List ℕ)))
-    (old : StoreHeld) (view : held_of turn meta log pool s stopped ≡ old) (op : Op) (mark : ℕ) (change : Change) (bytes : List ℕ) (effect : change ≡ change_here old.state op) (meta_is : new_meta ≡ change.meta)
+    (old : StoreHeld) (view : held_of turn meta log pool s stopped ≡ old) (op : Op) (mark : ℕ) (change : FileChange) (bytes : List ℕ) (effect : change ≡ change_here old.state op) (meta_is : new_meta ≡ change.meta)
     (puts : PutsAll change.pages pool new_pool) (is : IsPool pool) (numbers : (q : ℕ) → set.contains t q ≡ (has_page q change.pages || (is_among q (reads_of op) || set.contains s q)))
     (log_is : new_log ≡ record { area = old.state.log.area; len = old.state.log.len; written = old.state.log.written; groups = old.state.log.groups ++ record { bytes = bytes; mark = mark } ∷ [] }) where
   pub commits_then : Commits op mark old.state (seen turn new_meta new_log t stopped new_pool)
@@ -43,7 +43,7 @@ module _ (turn : ℕ) (meta : Meta) (log : LogState) (s : set.FinSet nat_cmp) (s
 
   pub stays_then : (q : ℕ) → has_page q (change_here old.state op).pages ≡ false → StaysHere old.uses q → in_memory (seen turn new_meta new_log t stopped new_pool) q ≡ in_memory old.state q
   stays_then q off stays =
-      let not_put : has_page q change.pages ≡ false = ap (λ (c : Change). has_page q c.pages) effect ∙ off in
+      let not_put : has_page q change.pages ≡ false = ap (λ (c : FileChange). has_page q c.pages) effect ∙ off in
       page_seen new_pool q
       ∙ stays_same pool new_pool q (puts.others q not_put) (subst (λ (h : StoreHeld). StaysHere h.uses q) (sym view) stays)
       ∙ sym (page_seen pool q) ∙ ap (λ (h : StoreHeld). in_memory h.state q) view

@@ -8,14 +8,16 @@ use Rattle.hb_frag.specs.declared.pages.Page.{Page}
 use Rattle.hb_layout.specs.declared.limits.TheConstants.{PAGES_MAX}
 use Rattle.hb_log_codec.specs.Groups.{FitsGroup, FitsOp, Logged, group_bytes}
 use Rattle.hb_ops.specs.declared.operations.Op.{Op}
-use Rattle.hb_ops.specs.Operations.{OpHas, reads_of}
+use Rattle.hb_space.specs.Edits.{Edit}
+use Rattle.hb_ops.specs.declared.operations.Op.TheVariants.{Put, Del, Change, Extract, Post, Merge, Grow}
+use Rattle.hb_ops.specs.Operations.{OpHas, edit_of, reads_of}
 use Rattle.hb_pool.specs.Frames.{Frame}
 use Rattle.hb_wal.specs.Log.{MayJoin}
 use Rattle.hb_store.specs.Calls.{IsAllowedHere, change_here, read_here}
 use Rattle.hb_store.specs.CommittedHere.{CanCommit}
 use Rattle.hb_store.specs.Filling.{in_frame}
 use Rattle.hb_store.specs.Held.{StoreHeld}
-use Rattle.hb_store.specs.Making.{HasFittingParts, IsGoodChange, MakesGoodPages, MakesWell, group_here, page_images_needed, record_op}
+use Rattle.hb_store.specs.Making.{HasFittingParts, IsGoodChange, MakesGoodPages, MakesWell, group_here, page_images_needed, EditsHere}
 use Rattle.hb_store.specs.States.{IsMemory, StoreState, in_memory, is_in_log}
 use Rattle.hb_store.proofs.Committing.{made_well}
 use Rattle.hb_store.proofs.Facts.Changed.{reads_numbered, still_stands}
@@ -35,23 +37,28 @@ module _ (st : StoreState) (is : IsMemory st) (op : Op) where
       let then = still_stands st.turn st.meta (change_here st op).meta good.after is.stands in
       omega (arith, at.1, then.high, then.layout.few_pages)
 
-  pub read_has_bit : (page : ℕ) (point : List ℕ) (body : Option (List ℕ)) → op ≡ record_op page point body → IsAllowedHere st op → page ≤ PAGES_MAX
+  pub read_has_bit : (page : ℕ) (point : List ℕ) (body : Option (List ℕ)) → EditsHere op page point body → IsAllowedHere st op → page ≤ PAGES_MAX
   read_has_bit page point body e allowed =
-      All-head (λ (id : ℕ). id ≤ PAGES_MAX) page [] (subst (λ (ids : List ℕ). All (λ (id : ℕ). id ≤ PAGES_MAX) ids) (ap reads_of e ∙ reads_one page point body) (reads_have_bits allowed))
+      All-head (λ (id : ℕ). id ≤ PAGES_MAX) page [] (subst (λ (ids : List ℕ). All (λ (id : ℕ). id ≤ PAGES_MAX) ids) (reads_one op page point body e) (reads_have_bits allowed))
 
 -- ---- the group
 
--- that of an operation on records, by what is held
-pub record_group : (pool : List (Frame (List ℕ))) (s : set.FinSet nat_cmp) (st : StoreState) → ((q : ℕ) → in_frame pool q ≡ in_memory st q) → s ≡ st.in_log → (op : Op) (page : ℕ) (point : List ℕ) (body : Option (List ℕ)) → op ≡ record_op page point body
-    → ◌≡◌ {A = Logged} (record { images = page_images_needed (in_frame pool) (set.contains s) (page ∷ []); op = record_op page point body }) (group_here st op)
+-- that of an operation that edits one record, by what is held
+pub record_group : (pool : List (Frame (List ℕ))) (s : set.FinSet nat_cmp) (st : StoreState) → ((q : ℕ) → in_frame pool q ≡ in_memory st q) → s ≡ st.in_log → (op : Op) (page : ℕ) (point : List ℕ) (body : Option (List ℕ)) → EditsHere op page point body
+    → ◌≡◌ {A = Logged} (record { images = page_images_needed (in_frame pool) (set.contains s) (page ∷ []); op = op }) (group_here st op)
 record_group pool s st pages in_log op page point body e =
-    ap (λ (ids : List ℕ). let g : Logged = record { images = page_images_needed (in_frame pool) (set.contains s) ids; op = record_op page point body } in g) (sym (reads_one page point body))
-    ∙ group_seen pool s st pages in_log (record_op page point body) ∙ ap (group_here st) (sym e)
+    ap (λ (ids : List ℕ). let g : Logged = record { images = page_images_needed (in_frame pool) (set.contains s) ids; op = op } in g) (sym (reads_one op page point body e))
+    ∙ group_seen pool s st pages in_log op
 
 -- it has neither a path nor cuts
-pub record_parts : (page : ℕ) (point : List ℕ) (body : Option (List ℕ)) → HasFittingParts (record_op page point body)
-record_parts page point (Some body) = tt
-record_parts page point None = tt
+pub record_parts : (op : Op) (at : ℕ × Edit) → edit_of op ≡ Some at → HasFittingParts op
+record_parts (Put page rec) at is = tt
+record_parts (Del page point) at is = tt
+record_parts (Change page rec) at is = tt
+record_parts (Extract source fresh path cuts free_after) at is = cc
+record_parts (Post parent at inner area) which is = cc
+record_parts (Merge parent keep gone) at is = cc
+record_parts (Grow fresh free_after) at is = cc
 
 module _ (makes : MakesGoodPages) (held : StoreHeld) (is : IsMemory held.state) (op : Op) (mark : ℕ) (may : CanCommit op mark held) (fits : (k : ℕ) → OpHas k op → FitsOp k op) where
   abbrev now : StoreState

@@ -10,7 +10,7 @@ use Rattle.hb_frag.specs.declared.pages.LivePage.{LivePage}
 use Rattle.hb_frag.specs.declared.pages.Page.{Page}
 use Rattle.hb_layout.specs.declared.meta.Meta.{Meta}
 use Rattle.hb_ops.specs.declared.operations.Op.{Op}
-use Rattle.hb_ops.specs.declared.operations.Op.TheVariants.{Put, Del, Extract, Post, Merge, Grow}
+use Rattle.hb_ops.specs.declared.operations.Op.TheVariants.{Put, Del, Change, Extract, Post, Merge, Grow}
 use Rattle.hb_space.specs.Boxes.{Area}
 use Rattle.hb_frag.specs.declared.paths.Side.{Side}
 use Rattle.hb_ops.specs.declared.leaf_cuts.LeafCut.{LeafCut}
@@ -21,7 +21,8 @@ use Rattle.hb_ops.specs.Allocating.{new_root}
 use Rattle.hb_ops.specs.Extracting.{fresh_page, source_page, split_pages}
 use Rattle.hb_ops.specs.Merging.{kept_page, parent_page}
 use Rattle.hb_ops.specs.Posting.{post_page}
-use Rattle.hb_ops.specs.Recording.{del_page, put_page}
+use Rattle.hb_space.specs.Edits.{changing}
+use Rattle.hb_ops.specs.Recording.{edited_page, del_page, put_page}
 use Rattle.hb_ops.specs.Operations.{change_of, reads_of}
 use Rattle.hb_pool.specs.Frames.{Frame, IsStaying, Use, filled, fresh, must_stay, use_of}
 use Rattle.hb_pool.specs.Pools.{IsPool, brought, frame_of, places, put_last}
@@ -109,6 +110,7 @@ fresh_of (Extract source fresh path cuts free_after) = fresh
 fresh_of (Grow fresh free_after) = fresh
 fresh_of (Put page rec) = 0
 fresh_of (Del page point) = 0
+fresh_of (Change page rec) = 0
 fresh_of (Post parent at inner area) = 0
 fresh_of (Merge parent keep gone) = 0
 
@@ -138,6 +140,8 @@ made_known (Put id rec) meta None second third = All-nil (IsKnown (Put id rec))
 made_known (Put id rec) meta (Some page) second third = All-alone (IsKnown (Put id rec)) (id, Live (put_page rec page)) (inl (itself id []))
 made_known (Del id point) meta None second third = All-nil (IsKnown (Del id point))
 made_known (Del id point) meta (Some page) second third = All-alone (IsKnown (Del id point)) (id, Live (del_page point page)) (inl (itself id []))
+made_known (Change id rec) meta None second third = All-nil (IsKnown (Change id rec))
+made_known (Change id rec) meta (Some page) second third = All-alone (IsKnown (Change id rec)) (id, Live (edited_page (changing rec) page)) (inl (itself id []))
 made_known (Extract source fresh path cuts free_after) meta None second third = All-nil (IsKnown (Extract source fresh path cuts free_after))
 made_known (Extract source fresh path cuts free_after) meta (Some page) second third = split_known source fresh path cuts free_after page (part_at path page.frag page.area)
 made_known (Post parent at inner area) meta None second third = All-nil (IsKnown (Post parent at inner area))

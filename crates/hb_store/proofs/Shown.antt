@@ -6,9 +6,9 @@ use Rattle.hb_frag.specs.declared.pages.LivePage.{LivePage}
 use Rattle.hb_frag.specs.declared.pages.Page.{Page}
 use Rattle.hb_layout.specs.declared.meta.Meta.{Meta}
 use Rattle.hb_ops.specs.declared.operations.Op.{Op}
-use Rattle.hb_ops.specs.declared.operations.Op.TheVariants.{Put, Del, Extract, Post, Merge, Grow}
+use Rattle.hb_ops.specs.declared.operations.Op.TheVariants.{Put, Del, Change, Extract, Post, Merge, Grow}
 use Rattle.hb_ops.specs.Files.{FileState, if_live, page_of, last_of}
-use Rattle.hb_ops.specs.Operations.{Change, IsAllowed, change_of, effect_of, nth_read, reads_of}
+use Rattle.hb_ops.specs.Operations.{FileChange, IsAllowed, change_of, effect_of, nth_read, reads_of}
 use Rattle.hb_log_codec.specs.Groups.{Logged}
 use Rattle.hb_store.specs.Replay.{IsAllowedIn, MayFollow, Replayed, after_group, after_op, change_in, replay, touched_read, with_page_images}
 use Rattle.hb_ops.specs.SetPages.{set_pages}
@@ -78,7 +78,7 @@ module _ (bytes : List ℕ) (said : Meta) where
     file_some = reads_some op s.meta (page_of s) allowed
 
     -- and so changes the same
-    abbrev in_file : Change
+    abbrev in_file : FileChange
     in_file = change_of op s.meta (nth_read s op 0) (nth_read s op 1) (nth_read s op 2)
 
     -- the pages that it reads are the same in both
@@ -98,18 +98,19 @@ module _ (bytes : List ℕ) (said : Meta) where
     shows_change : change_in t op ≡ in_file → Shows bytes said (after_op t op) (effect_of s op)
     shows_change same =
         let counted : HasCount s = shows.count ∙ ap (λ (m : Meta). m.high) (sym shows.meta) in
-        let metas : (effect_of s op).meta ≡ (after_op t op).meta = ap (λ (c : Change). c.meta) (sym same) in
+        let metas : (effect_of s op).meta ≡ (after_op t op).meta = ap (λ (c : FileChange). c.meta) (sym same) in
         record {
           meta = metas;
           count = effect_count s op counted allowed ∙ ap (λ (m : Meta). m.high) metas;
           each = λ q page is.
               let set : set_pages in_file.pages (page_of s) q ≡ Some page = sym (pages_set in_file.pages s.pages (effect_reaches s op counted allowed) q) ∙ is in
-              subst (λ (c : Change). IsPageIn bytes said q (set_pages c.pages t.page q) page) (sym same) (page_shown in_file.pages t.page (page_of s) shows.each q page set);
+              subst (λ (c : FileChange). IsPageIn bytes said q (set_pages c.pages t.page q) page) (sym same) (page_shown in_file.pages t.page (page_of s) shows.each q page set);
         }
 
   shows_op : (t : Replayed) (s : FileState) (op : Op) → Shows bytes said t s → IsAllowedIn t op → IsAllowed s op → Shows bytes said (after_op t op) (effect_of s op)
   shows_op t s (Put id rec) shows may allowed = let op = Put id rec in shows_change t s op shows may allowed (by_first t s op shows may allowed refl)
   shows_op t s (Del id point) shows may allowed = let op = Del id point in shows_change t s op shows may allowed (by_first t s op shows may allowed refl)
+  shows_op t s (Change id rec) shows may allowed = let op = Change id rec in shows_change t s op shows may allowed (by_first t s op shows may allowed refl)
   shows_op t s (Extract source fresh path cuts free_after) shows may allowed =
       let op = Extract source fresh path cuts free_after in shows_change t s op shows may allowed (by_first t s op shows may allowed refl)
   shows_op t s (Post parent at inner area) shows may allowed = let op = Post parent at inner area in shows_change t s op shows may allowed (by_first t s op shows may allowed refl)

@@ -1,10 +1,9 @@
 -- An operation on records: its page is changed in the bytes of its frame.
-use Rattle.std.proofs.Common.{◌≡◌, ℕ, zero, suc, ◌<◌, ◌==◌, Bool, true, false, List, [], ◌∷◌, All, Option, Some, None, inl, refl, sym, ap, subst, ◌∙◌, arith}
+use Rattle.std.proofs.Common.{◌≡◌, ℕ, zero, suc, ◌<◌, ◌==◌, Bool, true, false, List, [], ◌∷◌, get_or, All, Option, Some, None, inl, refl, sym, ap, subst, ◌∙◌, arith}
 use Rattle.std.specs.Prelude.{◌||◌, IsSomeAnd}
 use Rattle.std.specs.Option.{option_map}
 use Rattle.std.proofs.lemmas.List.Elements.{All-head, All-tail}
 use Rattle.hb_lemmas.proofs.Options.{has_value}
-use Rattle.hb_space.specs.declared.records.Record.{Record}
 use Rattle.hb_frag.specs.declared.pages.LivePage.{LivePage}
 use Rattle.hb_frag.specs.declared.pages.Page.{Page}
 use Rattle.hb_frag.specs.declared.pages.Page.TheVariants.{Live, Free}
@@ -13,19 +12,20 @@ use Rattle.hb_page_codec.specs.Exact.{AreBytes}
 use Rattle.hb_page_codec.specs.ReadingPages.{page_of_bytes}
 use Rattle.hb_page_codec.proofs.Facts.PageLaws.{page_takes}
 use Rattle.hb_ops.specs.declared.operations.Op.{Op}
-use Rattle.hb_ops.specs.declared.operations.Op.TheVariants.{Del, Put}
+use Rattle.hb_space.specs.Edits.{Edit}
+use Rattle.hb_ops.proofs.Facts.EditOps.{is_edit}
 use Rattle.hb_ops.specs.Files.{if_live}
-use Rattle.hb_ops.specs.Operations.{Change, IsAllowedOn, change_of, reads_of}
+use Rattle.hb_ops.specs.Operations.{FileChange, change_of, reads_of}
 use Rattle.hb_ops.specs.SetPages.{has_page}
 use Rattle.hb_pool.specs.Editing.{AreWhole}
 use Rattle.hb_pool.specs.Frames.{Frame, filled}
 use Rattle.hb_pool.specs.Pools.{IsPool, frame_of, put_last}
 use Rattle.hb_view.specs.Spelled.{page_spelled}
-use Rattle.hb_view.specs.Splicing.{DeletesAreSplices, IsOrderedAt, PutsAreSplices, spliced}
+use Rattle.hb_view.specs.Splicing.{EditsAreSplices, IsOrderedAt, spliced}
 use Rattle.hb_view.specs.Views.{IsLiveAnd}
 use Rattle.hb_store.specs.Calls.{IsAllowedHere, change_here, read_here}
 use Rattle.hb_store.specs.Filling.{HasSpliceable, PutsAll, PutsInto, in_frame}
-use Rattle.hb_store.specs.Making.{record_op}
+use Rattle.hb_store.specs.Making.{EditsHere}
 use Rattle.hb_store.specs.Replay.{is_among}
 use Rattle.hb_store.specs.States.{StoreState, in_memory}
 use Rattle.hb_store.proofs.Filled.{puts_more, puts_there}
@@ -73,55 +73,48 @@ module _ (point : List ℕ) (body : Option (List ℕ)) where
 -- ---- the operation
 
 -- the page that it changes is in memory and in order, and this is what it makes
-pub record MakesSpliced (st : StoreState) (page : ℕ) (point : List ℕ) (body : Option (List ℕ)) : Type 0 where
+pub record MakesSpliced (st : StoreState) (op : Op) (page : ℕ) (point : List ℕ) (body : Option (List ℕ)) : Type 0 where
   pub live : LivePage
   pub there : in_memory st page ≡ Some (Live live)
   pub ordered : IsOrderedAt point live
-  pub change : ◌≡◌ {A = Change} (change_here st (record_op page point body)) (record { meta = st.meta; pages = (page, Live (spliced point body live)) ∷ [] })
+  pub change : ◌≡◌ {A = FileChange} (change_here st op) (record { meta = st.meta; pages = (page, Live (spliced point body live)) ∷ [] })
 
-put_spliced : PutsAreSplices → (st : StoreState) (page : ℕ) (rec : Record) (o : Option Page) → in_memory st page ≡ o → IsAllowedOn (Put page rec) st.meta (if_live o) (read_here st (Put page rec) 1) (read_here st (Put page rec) 2) → MakesSpliced st page rec.key (Some rec.body)
-put_spliced puts st page rec None is fits = absurd fits
-put_spliced puts st page rec (Some (Free next)) is fits = absurd fits
-put_spliced puts st page rec (Some (Live live)) is fits = record {
-  live = live;
-  there = is;
-  ordered = (puts st.meta live rec fits).0;
-  change = ap (λ (o : Option Page). change_of (Put page rec) st.meta (if_live o) (read_here st (Put page rec) 1) (read_here st (Put page rec) 2)) is;
-}
+live_is : (o : Option Page) (live : LivePage) → if_live o ≡ Some live → o ≡ Some (Live live)
+live_is None live is = cc
+live_is (Some (Free next)) live is = cc
+live_is (Some (Live page)) live is = cc
 
-del_spliced : DeletesAreSplices → (st : StoreState) (page : ℕ) (point : List ℕ) (o : Option Page) → in_memory st page ≡ o → IsAllowedOn (Del page point) st.meta (if_live o) (read_here st (Del page point) 1) (read_here st (Del page point) 2) → MakesSpliced st page point None
-del_spliced deletes st page point None is fits = absurd fits
-del_spliced deletes st page point (Some (Free next)) is fits = absurd fits
-del_spliced deletes st page point (Some (Live live)) is fits = record {
-  live = live;
-  there = is;
-  ordered = (deletes st.meta live point fits).0;
-  change = ap (λ (o : Option Page). change_of (Del page point) st.meta (if_live o) (read_here st (Del page point) 1) (read_here st (Del page point) 2)) is;
-}
+-- it reads that page alone
+pub reads_one : (op : Op) (page : ℕ) (point : List ℕ) (body : Option (List ℕ)) → EditsHere op page point body → reads_of op ≡ page ∷ []
+reads_one op page point body here = (is_edit op page (record { point = point; there = here.there; body = body }) here.edit).reads
 
-pub makes_spliced : PutsAreSplices → DeletesAreSplices → (st : StoreState) (page : ℕ) (point : List ℕ) (body : Option (List ℕ)) → IsAllowedHere st (record_op page point body) → MakesSpliced st page point body
-makes_spliced puts deletes st page point (Some body) allowed = put_spliced puts st page (record { key = point; body = body }) (in_memory st page) refl allowed
-makes_spliced puts deletes st page point None allowed = del_spliced deletes st page point (in_memory st page) refl allowed
+pub makes_spliced : EditsAreSplices → (st : StoreState) (op : Op) (page : ℕ) (point : List ℕ) (body : Option (List ℕ)) → EditsHere op page point body → IsAllowedHere st op → MakesSpliced st op page point body
+makes_spliced edits st op page point body here allowed =
+    let e : Edit = record { point = point; there = here.there; body = body } in
+    let edit = is_edit op page e here.edit in
+    let on = edit.allowed st.meta (read_here st op 0) (read_here st op 1) (read_here st op 2) allowed in
+    let reads : read_here st op 0 ≡ if_live (in_memory st page) = ap (λ (ids : List ℕ). if_live (in_memory st (get_or ids 0 0))) edit.reads in
+    record {
+      live = on.0;
+      there = live_is (in_memory st page) on.0 (sym reads ∙ on.1);
+      ordered = (edits st.meta on.0 e on.2).0;
+      change = ap (λ (o : Option LivePage). change_of op st.meta o (read_here st op 1) (read_here st op 2)) on.1 ∙ edit.makes st.meta on.0 (read_here st op 1) (read_here st op 2);
+    }
 
-module _ (puts : PutsAreSplices) (deletes : DeletesAreSplices) (st : StoreState) (op : Op) (page : ℕ) (point : List ℕ) (body : Option (List ℕ)) (is : op ≡ record_op page point body) (allowed : IsAllowedHere st op) where
-  abbrev pub made : MakesSpliced st page point body
-  made = makes_spliced puts deletes st page point body (subst (IsAllowedHere st) is allowed)
+module _ (edits : EditsAreSplices) (st : StoreState) (op : Op) (page : ℕ) (point : List ℕ) (body : Option (List ℕ)) (is : EditsHere op page point body) (allowed : IsAllowedHere st op) where
+  abbrev pub made : MakesSpliced st op page point body
+  made = makes_spliced edits st op page point body is allowed
 
-  pub change_is : ◌≡◌ {A = Change} (change_here st op) (record { meta = st.meta; pages = (page, Live (spliced point body made.live)) ∷ [] })
-  change_is = ap (change_here st) is ∙ made.change
+  pub change_is : ◌≡◌ {A = FileChange} (change_here st op) (record { meta = st.meta; pages = (page, Live (spliced point body made.live)) ∷ [] })
+  change_is = made.change
 
   -- where each page that it makes can be written, its page can be spliced
   pub can_splice : (frame : Option Page) → frame ≡ in_memory st page → All (λ (c : ℕ × Page). HasSpelling c.1) (change_here st op).pages → HasSpliceable frame point body
   can_splice frame seen spelled =
       let P = λ (c : ℕ × Page). HasSpelling c.1 in
       let one : ℕ × Page = (page, Live (spliced point body made.live)) in
-      let alone : All P (one ∷ []) = subst (λ (c : Change). All P c.pages) change_is spelled in
+      let alone : All P (one ∷ []) = subst (λ (c : FileChange). All P c.pages) change_is spelled in
       subst (λ (o : Option Page). HasSpliceable o point body) (sym (seen ∙ made.there)) (made.ordered, All-head P one [] alone)
-
--- it reads that page alone
-pub reads_one : (page : ℕ) (point : List ℕ) (body : Option (List ℕ)) → reads_of (record_op page point body) ≡ page ∷ []
-reads_one page point (Some body) = refl
-reads_one page point None = refl
 
 -- ---- one page that was put
 

@@ -10,7 +10,7 @@ use Rattle.hb_frag.specs.declared.pages.Page.TheVariants.{Live}
 use Rattle.hb_frag.specs.Grammar.{HasSpelling}
 use Rattle.hb_layout.specs.declared.meta.Meta.{Meta}
 use Rattle.hb_ops.specs.declared.operations.Op.{Op}
-use Rattle.hb_ops.specs.declared.operations.Op.TheVariants.{Put, Del, Extract, Post, Merge, Grow}
+use Rattle.hb_ops.specs.declared.operations.Op.TheVariants.{Put, Del, Change, Extract, Post, Merge, Grow}
 use Rattle.hb_ops.specs.Operations.{change_of, reads_of}
 use Rattle.hb_log_codec.specs.Groups.{Logged, FitsGroup, FitsOp}
 use Rattle.hb_store.specs.Replay.{Replayed, with_page_images, IsAllowedIn, MayFollow, after_group, after_op, change_in, touched_read}
@@ -50,6 +50,8 @@ change_by_first (Put id rec) meta None a b c d few = refl
 change_by_first (Put id rec) meta (Some page) a b c d few = refl
 change_by_first (Del id point) meta None a b c d few = refl
 change_by_first (Del id point) meta (Some page) a b c d few = refl
+change_by_first (Change id rec) meta None a b c d few = refl
+change_by_first (Change id rec) meta (Some page) a b c d few = refl
 change_by_first (Extract source fresh path cuts free_after) meta None a b c d few = refl
 change_by_first (Extract source fresh path cuts free_after) meta (Some page) a b c d few = refl
 change_by_first (Post parent at inner area) meta None a b c d few = refl

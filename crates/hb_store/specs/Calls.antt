@@ -5,7 +5,7 @@ use Rattle.hb_frag.specs.declared.pages.LivePage.{LivePage}
 use Rattle.hb_frag.specs.declared.pages.Page.{Page}
 use Rattle.hb_ops.specs.declared.operations.Op.{Op}
 use Rattle.hb_ops.specs.Files.{FileState, if_live, last_of}
-use Rattle.hb_ops.specs.Operations.{Change, IsAllowedOn, change_of, effect_of, reads_of}
+use Rattle.hb_ops.specs.Operations.{FileChange, IsAllowedOn, change_of, effect_of, reads_of}
 use Rattle.hb_pool.specs.Frames.{IsStaying, Use, filled}
 use Rattle.hb_pool.specs.Pools.{brought, frame_of, places, put_last}
 use Rattle.hb_wal.specs.Log.{pending_bytes, room_of}
@@ -21,7 +21,7 @@ read_here st op place = if_live (in_memory st (get_or (reads_of op) place 0))
 abbrev pub IsAllowedHere : StoreState → Op → Type 0
 IsAllowedHere st op = IsAllowedOn op st.meta (read_here st op 0) (read_here st op 1) (read_here st op 2)
 
-abbrev pub change_here : StoreState → Op → Change
+abbrev pub change_here : StoreState → Op → FileChange
 change_here st op = change_of op st.meta (read_here st op 0) (read_here st op 1) (read_here st op 2)
 
 -- The page of this number is in memory and stays there, whatever comes: it is dirty or pinned.

@@ -6,8 +6,8 @@ use Rattle.hb_frag.specs.declared.pages.Page.TheVariants.{Live}
 use Rattle.hb_frag.specs.Grammar.{HasSpelling}
 use Rattle.hb_layout.specs.declared.meta.Meta.{Meta}
 use Rattle.hb_ops.specs.declared.operations.Op.{Op}
-use Rattle.hb_ops.specs.declared.operations.Op.TheVariants.{Del, Extract, Post, Put}
-use Rattle.hb_ops.specs.Operations.{BoxesMatch, Change, IsAllowedOn, OpHas, change_of, reads_of}
+use Rattle.hb_ops.specs.declared.operations.Op.TheVariants.{Change, Del, Extract, Post, Put}
+use Rattle.hb_ops.specs.Operations.{BoxesMatch, FileChange, IsAllowedOn, OpHas, change_of, edit_of, reads_of}
 use Rattle.hb_log_codec.specs.Groups.{FitsGroup, FitsLeafCut, FitsOp, Logged}
 use Rattle.hb_view.specs.Spelled.{page_spelled}
 use Rattle.hb_store.specs.States.{AreGood, IsGoodPage, IsMemory, StoreState, in_memory, is_in_log}
@@ -61,7 +61,7 @@ HaveFittingParts = (op : Op) (meta : Meta) (first second third : Option LivePage
 
 -- What a change makes: what the file says of itself comes after what it said, good pages stay good, and each changed page
 -- is one of the file then, and is good.
-pub record IsGoodChange (meta : Meta) (change : Change) : Type 0 where
+pub record IsGoodChange (meta : Meta) (change : FileChange) : Type 0 where
   -- the layout stays, what the file says of itself is within its limits, and the highest page does not fall
   pub after : ComesAfter meta change.meta
   -- it rises by one at most
@@ -86,15 +86,16 @@ pub record OperationLaws : Type 0 where
   pub fits : PartsFitOnGoodPages
   pub commits : CommitsBringNone
 
--- the operation on records that puts this body at a point of a page, or takes it from there
-abbrev pub record_op : ℕ → List ℕ → Option (List ℕ) → Op
-record_op page point (Some body) = Put page (record { key = point; body = body })
-record_op page point None = Del page point
+-- the operation edits one record of this page: its point has this body afterwards, or none
+pub record EditsHere (op : Op) (page : ℕ) (point : List ℕ) (body : Option (List ℕ)) : Type 0 where
+  pub there : Bool
+  pub edit : edit_of op ≡ Some (page, record { point = point; there = there; body = body })
 
--- an operation for which a store takes memory: each but those on records
+-- an operation for which a store takes memory: each but those that edit one record
 abbrev pub TakesMemory : Op → Type 0
 TakesMemory (Put page rec) = ⊥
 TakesMemory (Del page point) = ⊥
+TakesMemory (Change page rec) = ⊥
 TakesMemory other = Unit {0}
 
 -- an operation that a store can do: its points have as many attributes as the file says, it is allowed on the pages in memory, and

@@ -6,7 +6,7 @@ use Rattle.hb_layout.specs.declared.meta.Meta.{Meta}
 use Rattle.hb_ops.specs.declared.operations.Op.{Op}
 use Rattle.hb_ops.specs.Files.{if_live}
 use Rattle.hb_ops.specs.SetPages.{set_pages}
-use Rattle.hb_ops.specs.Operations.{Change, IsAllowedOn, change_of, reads_of}
+use Rattle.hb_ops.specs.Operations.{FileChange, IsAllowedOn, change_of, reads_of}
 use Rattle.hb_log_codec.specs.Groups.{Logged}
 use Rattle.std.specs.List.{list_any, fold}
 
@@ -34,7 +34,7 @@ touched_read t op place = if_live (t.page (get_or (reads_of op) place 0))
 abbrev pub IsAllowedIn : Replayed → Op → Type 0
 IsAllowedIn t op = IsAllowedOn op t.meta (touched_read t op 0) (touched_read t op 1) (touched_read t op 2)
 
-abbrev pub change_in : Replayed → Op → Change
+abbrev pub change_in : Replayed → Op → FileChange
 change_in t op = change_of op t.meta (touched_read t op 0) (touched_read t op 1) (touched_read t op 2)
 
 abbrev pub after_op : Replayed → Op → Replayed

@@ -7,7 +7,7 @@ ghost use Rattle.hb_ops.specs.Operations.{BoxesMatch, IsLicensed, OpHas, reads_o
 ghost use Rattle.hb_log_codec.specs.Groups.{FitsGroup, group_bytes};
 ghost use Rattle.hb_store.specs.CommittedHere.{CommitsHere, CanCommit};
 ghost use Rattle.hb_store.specs.Keeps.{StoreKeeps};
-ghost use Rattle.hb_store.specs.Making.{IsDoableHere, TakesMemory, group_here, record_op};
+ghost use Rattle.hb_store.specs.Making.{IsDoableHere, TakesMemory, EditsHere, group_here};
 ghost use Rattle.hb_store.specs.Seen.{seen_as, uses_of};
 ghost use Rattle.hb_store.specs.Calls.{Commits, HasFrameFor, IsAllowedHere, IsReady, StaysHere, change_here, numbers_changed, read_here, use_changed, with_op};
 ghost use Rattle.hb_ops.specs.SetPages.{has_page};
@@ -24,12 +24,12 @@ use hb_frag::{LivePage, Page};
 use hb_log_codec::laws::groups_are_short;
 use hb_ops::{ChangeError, Changed, Op, change};
 use hb_space::{Body, NoMemory, Point};
-use hb_view::laws::puts_and_deletes_are_splices;
+use hb_view::laws::edits_are_splices;
 use std::alloc::{AllocError, Global};
 
 impl<D: Device> Store<D> {
     /// Does an operation in memory, and lets its group wait for a force. No device call. The pages that it reads are pinned or
-    /// dirty. For want of memory nothing changes; a put and a delete are never refused.
+    /// dirty. For want of memory nothing changes; a put, a delete and a change are never refused.
     pub fn commit(&mut self, op: Op, mark: u32) -> Result<(), NoMemory>
         requires running { (seen_as self.old).stopped ≡ false }
         requires ready { IsReady (seen_as self.old) }
@@ -56,8 +56,8 @@ impl<D: Device> Store<D> {
 }
 
 impl Memory {
-    /// Does an operation on the pages in memory, and lets its group wait. For want of memory nothing changes; a put and a delete are
-    /// never refused.
+    /// Does an operation on the pages in memory, and lets its group wait. For want of memory nothing changes; a put, a delete and a change
+    /// are never refused.
     pub(crate) fn commit(&mut self, alloc: Global, op: &Op, mark: u32) -> Result<(), NoMemory>
         requires { CanCommit op.now mark self.old }
         ensures done { OnOk result (CommitsHere op.now mark self.old self.new) }
@@ -65,7 +65,7 @@ impl Memory {
         ensures memory { OnErr result (TakesMemory op.now) }
     {
         match op {
-            Op::Put { page, rec } => {
+            Op::Put { page, rec } | Op::Change { page, rec } => {
                 self.commit_record(op, mark, *page, &rec.key, Some(&rec.body));
                 Ok(())
             }
@@ -79,15 +79,15 @@ impl Memory {
         }
     }
 
-    /// Does an operation on records: a body is put at a point of the page's bytes, or taken from it. The page's image is of the page
+    /// Does an operation that edits one record: a body is put at a point of the page's bytes, or taken from it. The page's image is of the page
     /// before that, so the group is the first.
     fn commit_record(&mut self, op: &Op, mark: u32, page: u32, point: &Point, body: Option<&Body>)
         requires may { CanCommit op.now mark self.old }
-        requires record_op { op.now ≡ record_op page point.now (option_copied body) }
+        requires edits { EditsHere op.now page point.now (option_copied body) }
         ensures { CommitsHere op.now mark self.old self.new }
     {
         what_is_made_can_be_written();
-        puts_and_deletes_are_splices();
+        edits_are_splices();
         groups_are_short();
         op_fits(op);
         append_record(
@@ -95,8 +95,7 @@ impl Memory {
             &self.pool,
             &self.in_log,
             page,
-            point,
-            body,
+            op,
             mark,
         );
         self.in_log.add(page);

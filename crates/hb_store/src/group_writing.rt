@@ -1,24 +1,23 @@
 //! Groups of the log to bytes.
-ghost use Rattle.std.specs.Prelude.{◌≡◌, ℕ, ◌≤◌, [], ◌∷◌, ◌++◌, length, flat_map, option_map, option_copied, IfOk, IfSome, OnOk};
+ghost use Rattle.std.specs.Prelude.{◌≡◌, ℕ, ◌≤◌, [], ◌∷◌, ◌++◌, length, flat_map, option_map, option_copied, IfOk, IfSome, IsSome, OnOk};
 ghost use Rattle.std.specs.FinSet as set;
 ghost use Rattle.hb_frag.specs.Grammar.{SpellsPage};
-ghost use Rattle.hb_ops.specs.Operations.{OpHas, reads_of};
+ghost use Rattle.hb_ops.specs.Operations.{OpHas, edit_of, reads_of};
 ghost use Rattle.hb_log_codec.specs.Groups.{FitsOp, group_bytes, op_bytes, page_image_bytes};
 ghost use Rattle.hb_view.specs.Spelled.{page_spelled};
 ghost use Rattle.hb_store.specs.Filling.{in_frame};
 ghost use Rattle.hb_store.specs.Inside.{AreSpelled};
 ghost use Rattle.hb_wal.specs.Log.{MayJoin, with_group};
-ghost use Rattle.hb_store.specs.Making.{HasFittingParts, image_of, page_image_needed, page_images_needed, record_op};
+ghost use Rattle.hb_store.specs.Making.{HasFittingParts, image_of, page_image_needed, page_images_needed};
 
 use crate::page_sets::PageSet;
-use arrayvec::ArrayVec;
 use hb_log_codec::laws::groups_have_parts;
-use hb_log_codec::{PART, encode_del, encode_front, encode_op, encode_put};
+use hb_log_codec::{encode_edit, encode_front, encode_op};
 use hb_ops::Op;
 use hb_outside::give_u32;
 use hb_pool::Pool;
 use hb_space::form::PAGE;
-use hb_space::{Body, NoMemory, Point};
+use hb_space::NoMemory;
 use hb_wal::Wal;
 use std::alloc::Global;
 
@@ -129,23 +128,23 @@ fn append_page_image(into: &mut Vec<u8>, id: u32, bytes: &[u8; PAGE]) -> Result<
     into.extend_from_slice(bytes)
 }
 
-/// Lets the group wait of the operation that puts this body at a point of a page, or takes it from there. It goes in its parts from
-/// where they stand, so it takes no memory: the page's image, unless this turn's log has it, and the operation.
+/// Lets the group wait of an operation that edits one record of the page. It goes in its parts from where they stand, so it takes no
+/// memory: the page's image, unless this turn's log has it, and the operation.
 pub(crate) fn append_record(
     log: &mut Wal,
     pool: &Pool,
     in_log: &PageSet,
     page: u32,
-    point: &Point,
-    body: Option<&Body>,
+    op: &Op,
     mark: u32,
 )
     requires spelled { AreSpelled pool.now }
-    requires group { MayJoin (group_bytes (record { images = page_images_needed (in_frame pool.now) (set.contains in_log.now) (page ∷ []); op = record_op page point.now (option_copied body) })) mark log.old }
-    ensures { log.new ≡ with_group (group_bytes (record { images = page_images_needed (in_frame pool.now) (set.contains in_log.now) (page ∷ []); op = record_op page point.now (option_copied body.entry) })) mark log.old }
+    requires edits { IsSome (edit_of op.now) }
+    requires group { MayJoin (group_bytes (record { images = page_images_needed (in_frame pool.now) (set.contains in_log.now) (page ∷ []); op = op.now })) mark log.old }
+    ensures { log.new ≡ with_group (group_bytes (record { images = page_images_needed (in_frame pool.now) (set.contains in_log.now) (page ∷ []); op = op.now })) mark log.old }
 {
     let image = image_due(pool, in_log, page);
-    append_parts(log, image, page, point, body, mark);
+    append_parts(log, image, page, op, mark);
 }
 
 /// The bytes of a page whose image an operation on it needs, unless this turn's log has it.
@@ -162,32 +161,16 @@ fn image_due<'a>(pool: &'a Pool, in_log: &PageSet, page: u32) -> Option<&'a [u8;
 }
 
 /// Lets the group wait that has this image of the page, or none.
-fn append_parts(
-    log: &mut Wal,
-    image: Option<&[u8; PAGE]>,
-    page: u32,
-    point: &Point,
-    body: Option<&Body>,
-    mark: u32,
-)
+fn append_parts(log: &mut Wal, image: Option<&[u8; PAGE]>, page: u32, op: &Op, mark: u32)
     requires spelled { IfSome image (λ b. SpellsPage b.now (page_spelled b.now)) }
-    requires group { MayJoin (group_bytes (record { images = image_of page (option_copied image); op = record_op page point.now (option_copied body) })) mark log.old }
-    ensures { log.new ≡ with_group (group_bytes (record { images = image_of page (option_copied image.entry); op = record_op page point.now (option_copied body.entry) })) mark log.old }
+    requires edits { IsSome (edit_of op.now) }
+    requires group { MayJoin (group_bytes (record { images = image_of page (option_copied image); op = op.now })) mark log.old }
+    ensures { log.new ≡ with_group (group_bytes (record { images = image_of page (option_copied image.entry); op = op.now })) mark log.old }
 {
     groups_have_parts();
-    let operation = op_part(page, point, body);
+    let operation = encode_edit(op);
     match image {
         Some(bytes) => log.append_parts(&encode_front(Some(page)), bytes, &operation, mark),
         None => log.append_parts(&encode_front(None), &[], &operation, mark),
-    }
-}
-
-/// The bytes of the operation.
-fn op_part(page: u32, point: &Point, body: Option<&Body>) -> ArrayVec<u8, PART>
-    ensures { result.items ≡ op_bytes (record_op page point.now (option_copied body.entry)) }
-{
-    match body {
-        Some(body) => encode_put(page, point, body),
-        None => encode_del(page, point),
     }
 }

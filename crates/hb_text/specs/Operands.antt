@@ -3,8 +3,9 @@ use Rattle.std.specs.Prelude.{ℕ, ◌+◌, ◌*◌, Bool, true, ◌&&◌, ◌==
 use Rattle.std.specs.Str.{bytes_eq}
 use Rattle.hb_space.specs.declared.form.TheConstants.{BMAX}
 use Rattle.hb_space.specs.Boxes.{Area}
+use Rattle.hb_space.specs.declared.records.Record.{Record}
 use Rattle.hb_set.specs.declared.commands.Command.{Command}
-use Rattle.hb_set.specs.declared.commands.Command.TheVariants.{Insert, Delete, Lookup, Search}
+use Rattle.hb_set.specs.declared.commands.Command.TheVariants.{Insert, Delete, Change, Lookup, Search}
 use Rattle.hb_text.specs.Numbers.{number_read}
 use Rattle.hb_text.specs.declared.numbers.NumberFault.{NumberFault}
 use Rattle.hb_text.specs.declared.numbers.NumberFault.TheVariants.{NotANumber, AboveLimit}
@@ -18,14 +19,16 @@ abbrev pub verb_of : List ℕ → Option Verb
 verb_of word =
     if bytes_eq word (codes "insert") then Some verbs.Insert
     else (if bytes_eq word (codes "delete") then Some verbs.Delete
+    else (if bytes_eq word (codes "change") then Some verbs.Change
     else (if bytes_eq word (codes "lookup") then Some verbs.Lookup
     else (if bytes_eq word (codes "search") then Some verbs.Search
-    else None)))
+    else None))))
 
 -- how many words follow a verb, over k attributes
 abbrev pub operand_count : Verb → ℕ → ℕ
 operand_count verbs.Insert k = k + 1
 operand_count verbs.Delete k = k
+operand_count verbs.Change k = k + 1
 operand_count verbs.Lookup k = k
 operand_count verbs.Search k = 2 * k
 
@@ -69,15 +72,24 @@ abbrev pub body_read : List (List ℕ) → Result (List ℕ) TextRule
 body_read ((c ∷ body) ∷ rest) = if c == 61 && nat_le (length body) BMAX then Ok body else Err BadBody
 body_read _ = Err BadBody
 
+-- a record is the values of its point, and a body
+unfoldable pub record_read : ℕ → List (List ℕ) → Result Record TextRule
+record_read k words = do
+  key ← values_read (take k words)
+  body ← body_read (drop k words)
+  Ok (record { key = key; body = body })
+
 -- the command of a verb with as many words behind it as it wants
 unfoldable pub operands_read : Verb → ℕ → List (List ℕ) → Result Command TextRule
 operands_read verbs.Insert k words = do
-  key ← values_read (take k words)
-  body ← body_read (drop k words)
-  Ok (Insert (record { key = key; body = body }))
+  added ← record_read k words
+  Ok (Insert added)
 operands_read verbs.Delete k words = do
   key ← values_read words
   Ok (Delete key)
+operands_read verbs.Change k words = do
+  changed ← record_read k words
+  Ok (Change changed)
 operands_read verbs.Lookup k words = do
   key ← values_read words
   Ok (Lookup key)

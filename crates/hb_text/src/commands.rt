@@ -1,6 +1,6 @@
-ghost use Rattle.std.specs.Prelude.{◌≡◌, length};
+ghost use Rattle.std.specs.Prelude.{◌≡◌, ◌+◌, length};
 ghost use Rattle.hb_text.specs.StepWords.{session_of};
-ghost use Rattle.hb_text.specs.Operands.{operand_count, operands_read, command_read};
+ghost use Rattle.hb_text.specs.Operands.{operand_count, operands_read, command_read, record_read};
 
 use crate::numbers::read_number;
 use crate::operands::{read_body, read_box, read_point};
@@ -21,6 +21,17 @@ pub(crate) fn read_session(word: &[u8]) -> Option<Actor>
     }
 }
 
+/// The record that the words say: its values, and its body.
+#[tactic(auto, unfolding(crate::specs::Operands::record_read))]
+fn read_record(attributes: Attributes, words: &mut Words<'_>) -> Result<Record, TextRule>
+    requires { length words.old ≡ attributes.number + 1 }
+    ensures { result ≡ record_read attributes.number words.old }
+{
+    let key = read_point(attributes, words)?;
+    let body = read_body(words)?;
+    Ok(Record { key, body })
+}
+
 /// The command of a verb, whose words are those that are left.
 #[tactic(auto, unfolding(crate::specs::Operands::operands_read))]
 fn read_operands(
@@ -32,11 +43,8 @@ fn read_operands(
     ensures { result ≡ operands_read verb attributes.number words.old }
 {
     match verb {
-        Verb::Insert => {
-            let key = read_point(attributes, words)?;
-            let body = read_body(words)?;
-            Ok(Command::Insert(Record { key, body }))
-        }
+        Verb::Insert => Ok(Command::Insert(read_record(attributes, words)?)),
+        Verb::Change => Ok(Command::Change(read_record(attributes, words)?)),
         Verb::Delete => Ok(Command::Delete(read_point(attributes, words)?)),
         Verb::Lookup => Ok(Command::Lookup(read_point(attributes, words)?)),
         Verb::Search => Ok(Command::Search(read_box(attributes, words)?)),

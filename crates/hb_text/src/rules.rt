@@ -29,7 +29,7 @@ pub enum TextRule {
     TooLarge,
     /// A lower value exceeds its upper one.
     EmptyBox,
-    /// The last word of an insert is no body.
+    /// The last word of an insert or a change is no body.
     BadBody,
 }
 

@@ -8,6 +8,7 @@ use hb_space::Attributes;
 pub(crate) enum Verb {
     Insert,
     Delete,
+    Change,
     Lookup,
     Search,
 }
@@ -20,6 +21,8 @@ pub(crate) fn named_verb(word: &[u8]) -> Option<Verb>
         Some(Verb::Insert)
     } else if word == b"delete".as_slice() {
         Some(Verb::Delete)
+    } else if word == b"change".as_slice() {
+        Some(Verb::Change)
     } else if word == b"lookup".as_slice() {
         Some(Verb::Lookup)
     } else if word == b"search".as_slice() {
@@ -35,7 +38,7 @@ pub(crate) fn wanted_operands(verb: Verb, attributes: Attributes) -> usize
 {
     let attributes = usize::from(attributes.number);
     match verb {
-        Verb::Insert => attributes + 1,
+        Verb::Insert | Verb::Change => attributes + 1,
         Verb::Delete | Verb::Lookup => attributes,
         Verb::Search => 2 * attributes,
     }

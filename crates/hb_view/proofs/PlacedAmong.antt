@@ -20,8 +20,9 @@ use Rattle.hb_page_codec.specs.ReadingFields.{record_at, records_at}
 use Rattle.hb_page_codec.specs.Reading.{many_at}
 use Rattle.hb_page_codec.proofs.Facts.Fields.{record_takes}
 use Rattle.hb_view.specs.Lists.{records_there}
-use Rattle.hb_view.specs.Splicing.{with_body}
-use Rattle.hb_view.specs.Spots.{IsPlaceAmong, record_with}
+use Rattle.hb_ops.specs.Recording.{with_body}
+use Rattle.hb_space.specs.Edits.{record_with}
+use Rattle.hb_view.specs.Spots.{IsPlaceAmong}
 use Rattle.hb_view.proofs.Listed.{left_list, others_there}
 
 -- ---- a pass over the records

@@ -19,7 +19,8 @@ use Rattle.hb_page_codec.specs.Writing.{Wrote}
 use Rattle.hb_page_codec.proofs.Facts.Fields.{length_point}
 use Rattle.hb_page_codec.proofs.Facts.PageLaws.{page_again}
 use Rattle.hb_view.specs.Splicing.{spliced}
-use Rattle.hb_view.specs.Spots.{IsSpot, MakesRoom, record_with, replaced}
+use Rattle.hb_view.specs.Spots.{IsSpot, MakesRoom, replaced}
+use Rattle.hb_space.specs.Edits.{record_with}
 use Rattle.hb_view.specs.Views.{IsLiveAnd}
 
 -- ---- room

@@ -19,16 +19,17 @@ use Rattle.hb_frag.specs.Paths.{way_to, with_part}
 use Rattle.hb_frag.specs.Rules.{Precedes}
 use Rattle.hb_frag.specs.Trees.{Tree, Tip}
 use Rattle.hb_frag.proofs.Facts.Points.{way_ends}
-use Rattle.hb_ops.specs.Recording.{on_records}
+use Rattle.hb_ops.specs.Recording.{on_records, with_body}
 use Rattle.hb_ops.proofs.Facts.Tips.{first_held}
 use Rattle.hb_page_codec.specs.Exact.{AreBytes}
 use Rattle.hb_page_codec.specs.ReadingPages.{tree_at}
 use Rattle.hb_page_codec.proofs.Facts.Fields.{AreBytes-drop, length_point}
 use Rattle.hb_view.specs.Lists.{records_there}
 use Rattle.hb_view.specs.Roots.{rest_there, tree_there}
-use Rattle.hb_view.specs.Splicing.{IsOrderedAt, spliced, with_body}
+use Rattle.hb_view.specs.Splicing.{IsOrderedAt, spliced}
+use Rattle.hb_space.specs.Edits.{record_with}
 use Rattle.hb_view.specs.Spelled.{page_spelled}
-use Rattle.hb_view.specs.Spots.{IsPlaceAmong, IsSpot, LeadsToList, ListStands, record_with}
+use Rattle.hb_view.specs.Spots.{IsPlaceAmong, IsSpot, LeadsToList, ListStands}
 use Rattle.hb_view.specs.Views.{HasInside, IsLive, IsLiveAnd, LeafWithin}
 use Rattle.hb_view.specs.declared.trees.Inside.{Inside}
 use Rattle.hb_view.specs.declared.trees.ListView.{ListView}

@@ -1,7 +1,8 @@
 -- Where the record of a point stands in bytes, or would stand, and bytes with others in the place of some.
-use Rattle.std.specs.Prelude.{◌≡◌, ℕ, ◌+◌, ◌-◌, ◌^◌, ◌<◌, ◌≤◌, List, [], ◌∷◌, ◌++◌, length, take, drop, replicate, flat_map, All, Option, Some, None}
+use Rattle.std.specs.Prelude.{◌≡◌, ℕ, ◌+◌, ◌-◌, ◌^◌, ◌<◌, ◌≤◌, List, [], ◌∷◌, ◌++◌, length, take, drop, replicate, flat_map, All, Option}
 use Rattle.std.specs.declared.cmp.Ordering.TheVariants.{Less, Equal, Greater}
 use Rattle.hb_lemmas.specs.Numbers.{big_endian}
+use Rattle.hb_space.specs.Edits.{record_with}
 use Rattle.hb_space.specs.Points.{point_cmp}
 use Rattle.hb_space.specs.declared.records.Record.{Record}
 use Rattle.hb_frag.specs.declared.leaves.Leaf.TheVariants.{Records}
@@ -46,11 +47,6 @@ pub record IsPlaceAmong (p : List ℕ) (records : List Record) (first from behin
   pub in_front : first ≡ flat_map record_bytes before ++ from
   pub there : from ≡ flat_map record_bytes here ++ behind
   pub counted : held ≡ length here
-
--- the record of a point that has this body; none where there is no body
-abbrev pub record_with : List ℕ → Option (List ℕ) → List Record
-record_with point (Some body) = record { key = point; body = body } ∷ []
-record_with point None = []
 
 -- Where the record of a point stands in the bytes of a page in use, or would stand. What is spliced in there changes it and the
 -- count of its leaf's records.

@@ -8,7 +8,8 @@ ghost use Rattle.hb_frag.specs.declared.pages.Page.TheVariants.{Live};
 ghost use Rattle.hb_page_codec.specs.ReadingPages.{page_of_bytes};
 ghost use Rattle.hb_view.specs.Spelled.{page_spelled};
 ghost use Rattle.hb_view.specs.Splicing.{IsOrderedAt, spliced};
-ghost use Rattle.hb_view.specs.Spots.{IsSpot, MakesRoom, record_with, replaced};
+ghost use Rattle.hb_view.specs.Spots.{IsSpot, MakesRoom, replaced};
+ghost use Rattle.hb_space.specs.Edits.{record_with};
 ghost use Rattle.hb_view.specs.Views.{IsLiveAnd};
 
 use crate::heads::inside_of;

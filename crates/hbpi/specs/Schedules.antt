@@ -6,7 +6,7 @@ use Rattle.hb_outside.specs.Calls.{SourceModel}
 use Rattle.hb_outside.specs.Streams.{Rose}
 use Rattle.hb_set.specs.Scripts.{IsScriptFor}
 use Rattle.hb_set.specs.declared.commands.Command.{Command}
-use Rattle.hb_set.specs.declared.commands.Command.TheVariants.{Insert, Delete, Lookup, Search}
+use Rattle.hb_set.specs.declared.commands.Command.TheVariants.{Insert, Delete, Change, Lookup, Search}
 use Rattle.hb_set.specs.declared.scripts.Line.{Line}
 use Rattle.hb_space.specs.Actors.{IsActor}
 use Rattle.hb_space.specs.Boxes.{IsArea}
@@ -38,6 +38,7 @@ FitsOrigin (Drawn state count) = count ≤ 1000000
 abbrev pub SearchesBox : Command → Type 0
 SearchesBox (Insert rec) = Unit {0}
 SearchesBox (Delete point) = Unit {0}
+SearchesBox (Change changed) = Unit {0}
 SearchesBox (Lookup point) = Unit {0}
 SearchesBox (Search area) = IsArea area
 

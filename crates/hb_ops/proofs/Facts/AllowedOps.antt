@@ -8,7 +8,7 @@ use Rattle.hb_frag.specs.declared.pages.LivePage.{LivePage}
 use Rattle.hb_frag.specs.declared.pages.Page.{Page}
 use Rattle.hb_layout.specs.declared.meta.Meta.{Meta}
 use Rattle.hb_ops.specs.declared.operations.Op.{Op}
-use Rattle.hb_ops.specs.declared.operations.Op.TheVariants.{Put, Del, Extract, Post, Merge, Grow}
+use Rattle.hb_ops.specs.declared.operations.Op.TheVariants.{Put, Del, Change, Extract, Post, Merge, Grow}
 use Rattle.hb_ops.specs.Allocating.{Allocates}
 use Rattle.hb_ops.specs.Files.{if_live}
 use Rattle.hb_ops.specs.Operations.{IsAllowedOn, change_of, reads_of}
@@ -37,7 +37,9 @@ pub high_next : (op : Op) (meta : Meta) (first second third : Option LivePage) �
 high_next (Put id rec) meta None second third allowed = absurd allowed
 high_next (Put id rec) meta (Some page) second third allowed = omega arith
 high_next (Del id point) meta None second third allowed = absurd allowed
+high_next (Change id rec) meta None second third allowed = absurd allowed
 high_next (Del id point) meta (Some page) second third allowed = omega arith
+high_next (Change id rec) meta (Some page) second third allowed = omega arith
 high_next (Extract source fresh path cuts free_after) meta None second third allowed = absurd allowed
 high_next (Extract source fresh path cuts free_after) meta (Some page) second third allowed = let is = taken_is meta fresh free_after allowed.allocates in omega (arith, is.next)
 high_next (Post parent at inner area) meta None second third allowed = absurd allowed
@@ -90,6 +92,7 @@ three_read parent keep gone meta f (Some above) (Some kept) (Some going) ea eb e
 pub reads_some : (op : Op) (meta : Meta) (f : ℕ → Option Page) → IsAllowedOn op meta (read_by f op 0) (read_by f op 1) (read_by f op 2) → All (λ id. IsSome (f id)) (reads_of op)
 reads_some (Put id rec) meta f h = one_read (Put id rec) meta f (if_live (f 0)) (if_live (f 0)) id (λ never. never) h
 reads_some (Del id point) meta f h = one_read (Del id point) meta f (if_live (f 0)) (if_live (f 0)) id (λ never. never) h
+reads_some (Change id rec) meta f h = one_read (Change id rec) meta f (if_live (f 0)) (if_live (f 0)) id (λ never. never) h
 reads_some (Extract source fresh path cuts free_after) meta f h = one_read (Extract source fresh path cuts free_after) meta f (if_live (f 0)) (if_live (f 0)) source (λ never. never) h
 reads_some (Post parent at inner area) meta f h = one_read (Post parent at inner area) meta f (if_live (f 0)) (if_live (f 0)) parent (λ never. never) h
 reads_some (Merge parent keep gone) meta f h = three_read parent keep gone meta f (if_live (f parent)) (if_live (f keep)) (if_live (f gone)) refl refl refl h

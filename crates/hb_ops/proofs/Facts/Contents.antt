@@ -1,5 +1,5 @@
--- What a put and a delete make of the contents.
-use Rattle.std.proofs.Common.{◌≡◌, ◌≢◌, ℕ, suc, Bool, cond, List, [], ◌∷◌, ◌++◌, flat_map, slice_get, Option, Some, None, refl, sym, ap, ◌∙◌, arith, append_assoc, eq-eqb}
+-- What an edit of a record makes of the contents.
+use Rattle.std.proofs.Common.{◌≡◌, ◌≢◌, ℕ, suc, Bool, true, false, cond, List, [], ◌∷◌, ◌++◌, flat_map, slice_get, Option, Some, None, refl, sym, ap, ◌∙◌, arith, append_assoc, eq-eqb}
 use Rattle.std.specs.List.{AllByRecursion}
 use Rattle.std.specs.FinMap as finite
 use Rattle.std.proofs.lemmas.List.Concat.{flat_map-append}
@@ -15,12 +15,15 @@ use Rattle.hb_frag.specs.declared.pages.Page.TheVariants.{Live}
 use Rattle.hb_frag.specs.Leaves.{WellCut, leaf_at, leaves, leaves_of, records_of}
 use Rattle.hb_frag.specs.Rules.{AreInOrder, IsInOrder}
 use Rattle.hb_layout.specs.declared.meta.Meta.{Meta}
-use Rattle.hb_ops.specs.declared.operations.Op.TheVariants.{Put, Del}
+use Rattle.hb_ops.specs.declared.operations.Op.{Op}
+use Rattle.hb_space.specs.Edits.{Edit, with_body_at}
+use Rattle.std.specs.Option.{is_some}
+use Rattle.hb_ops.proofs.Facts.EditOps.{edited_file, is_edit, reads_its_page}
 use Rattle.hb_ops.specs.Files.{FileState, file_records, live_page, page_of, page_records}
-use Rattle.hb_ops.specs.Recording.{FitsDel, FitsPut, joined, on_records, page_with, put_page, del_page, without}
-use Rattle.hb_ops.specs.Operations.{IsAllowedOn, change_of, effect_of, nth_read, with_page, with_changed_pages}
-use Rattle.hb_ops.specs.LawsOfContents.{DelTakesOne, LonePage, OthersLack, PutAddsOne}
-use Rattle.hb_ops.proofs.Facts.Finds.{absent, contents, del_done, put_done, there}
+use Rattle.hb_ops.specs.Recording.{HasPoint, on_records, page_with, with_body}
+use Rattle.hb_ops.specs.Operations.{nth_read, with_page}
+use Rattle.hb_ops.specs.LawsOfContents.{EditsChangeOne, LonePage, OthersLack}
+use Rattle.hb_ops.proofs.Facts.Finds.{absent, contents, del_done, found_at, put_done}
 use Rattle.hb_lemmas.proofs.Lists.{whole}
 use Rattle.hb_ops.proofs.Pages.{Lack, stands_among}
 use Rattle.hb_ops.proofs.Facts.PageNumberLaws.{live_so, page_at-suc, place_of, with_page-there}
@@ -72,52 +75,29 @@ around s id p page records area live level cut order leaf others =
       lack_after = whole (λ (r : Record). r.key ≢ p) (flat_map records_of at.after) among.after (flat_lack p at.after (at.lack_after rising)) (among.lack_after p lack);
     }
 
--- an operation that is allowed on a page has one
-pub put_on : (id : ℕ) (rec : Record) (meta : Meta) (o second third : Option LivePage) → IsAllowedOn (Put id rec) meta o second third → (page : LivePage) × (o ≡ Some page) × FitsPut meta page rec
-put_on id rec meta None second third h = absurd h
-put_on id rec meta (Some page) second third h = (page, refl, h)
+-- the point is there where the edit wants it there
+point_there : (there : Bool) (before records after : List Record) (p : List ℕ) → Lack p before → Lack p after → HasPoint there p records → is_some (finite.get (contents (before ++ (records ++ after))) p) ≡ there
+point_there true before records after p lack lack' any = ap is_some (found_at before records after p lack lack' any.0 any.1 any.2 (ap (λ (r : Record). r.key) any.3 ∙ any.4)).1
+point_there false before records after p lack lack' none = ap is_some (absent before records after p lack lack' (recursion_from_All (λ (r : Record). r.key ≢ p) records none))
 
-pub del_on : (id : ℕ) (point : List ℕ) (meta : Meta) (o second third : Option LivePage) → IsAllowedOn (Del id point) meta o second third → (page : LivePage) × (o ≡ Some page) × FitsDel meta page point
-del_on id point meta None second third h = absurd h
-del_on id point meta (Some page) second third h = (page, refl, h)
+-- and has the edit's body afterwards, or none
+point_edited : (body : Option (List ℕ)) (before records after : List Record) (p : List ℕ) → Lack p before → Lack p after → contents (before ++ (with_body p body records ++ after)) ≡ with_body_at p body (contents (before ++ (records ++ after)))
+point_edited (Some body) before records after p lack lack' = put_done before records after p lack lack' (record { key = p; body = body }) refl
+point_edited None before records after p lack lack' = del_done before records after p lack lack'
 
--- the pages afterwards
-pub put_pages : (s : FileState) (id : ℕ) (rec : Record) (page : LivePage) → live_page s id ≡ Some page → (effect_of s (Put id rec)).pages ≡ with_page id (Live (put_page rec page)) s.pages
-put_pages s id rec page live = ap (λ (o : Option LivePage). with_changed_pages (change_of (Put id rec) s.meta o (nth_read s (Put id rec) 1) (nth_read s (Put id rec) 2)).pages s.pages) live
-
-pub del_pages : (s : FileState) (id : ℕ) (point : List ℕ) (page : LivePage) → live_page s id ≡ Some page → (effect_of s (Del id point)).pages ≡ with_page id (Live (del_page point page)) s.pages
-del_pages s id point page live = ap (λ (o : Option LivePage). with_changed_pages (change_of (Del id point) s.meta o (nth_read s (Del id point) 1) (nth_read s (Del id point) 2)).pages s.pages) live
-
-pub put_adds_one : PutAddsOne
-put_adds_one s id rec allowed has others =
-    let on = put_on id rec s.meta (live_page s id) (nth_read s (Put id rec) 1) (nth_read s (Put id rec) 2) allowed in
+pub edits_change_one : EditsChangeOne
+edits_change_one s op id e is allowed has others =
+    let edit = is_edit op id e is in
+    let on = edit.allowed s.meta (nth_read s op 0) (nth_read s op 1) (nth_read s op 2) allowed in
+    let live = sym (reads_its_page s op id e edit) ∙ on.1 in
     let fits = on.2 in
-    let here = around s id rec.key on.0 fits.absent.records fits.absent.area on.1 fits.level fits.made.well_cut fits.made.in_order fits.absent.leaf others in (
-      ap (λ (rs : List Record). finite.get (contents rs) rec.key) here.is
-          ∙ absent here.before fits.absent.records here.after rec.key here.lack_before here.lack_after (recursion_from_All (λ (r : Record). r.key ≢ rec.key) fits.absent.records fits.absent.keeps),
-      ap (λ (pages : List Page). contents (flat_map page_records pages)) (put_pages s id rec on.0 on.1)
-          ∙ ap contents (here.changed (joined rec))
-          ∙ put_done here.before fits.absent.records here.after rec.key here.lack_before here.lack_after rec refl
-          ∙ ap (λ (rs : List Record). finite.insert (contents rs) rec.key rec.body) (sym here.is),
-    )
-
--- a body found in records that are equal
-still_there : (rs ts : List Record) (point : List ℕ) → rs ≡ ts → (body : List ℕ) × (finite.get (contents ts) point ≡ Some body) → (body : List ℕ) × (finite.get (contents rs) point ≡ Some body)
-still_there rs ts point e w = (w.0, ap (λ (xs : List Record). finite.get (contents xs) point) e ∙ w.1)
-
-pub del_takes_one : DelTakesOne
-del_takes_one s id point allowed has others =
-    let on = del_on id point s.meta (live_page s id) (nth_read s (Del id point) 1) (nth_read s (Del id point) 2) allowed in
-    let fits = on.2 in
-    let records = fits.there.records in
-    let here = around s id point on.0 records fits.there.area on.1 fits.level fits.made.well_cut fits.made.in_order fits.there.leaf others in
-    let any = fits.there.keeps in
-    let found = there here.before records here.after point here.lack_before here.lack_after any.0 any.1 any.2 (ap (λ (r : Record). r.key) any.3 ∙ any.4) in (
-      still_there _ _ point here.is found,
-      ap (λ (pages : List Page). contents (flat_map page_records pages)) (del_pages s id point on.0 on.1)
-          ∙ ap contents (here.changed (without point))
-          ∙ del_done here.before records here.after point here.lack_before here.lack_after
-          ∙ ap (λ (rs : List Record). finite.remove (contents rs) point) (sym here.is),
+    let here = around s id e.point on.0 fits.found.records fits.found.area live fits.level fits.made.well_cut fits.made.in_order fits.found.leaf others in (
+      ap (λ (rs : List Record). is_some (finite.get (contents rs) e.point)) here.is
+          ∙ point_there e.there here.before fits.found.records here.after e.point here.lack_before here.lack_after fits.found.keeps,
+      ap (λ (t : FileState). contents (flat_map page_records t.pages)) (edited_file s op id e on.0 edit live)
+          ∙ ap contents (here.changed (with_body e.point e.body))
+          ∙ point_edited e.body here.before fits.found.records here.after e.point here.lack_before here.lack_after
+          ∙ ap (λ (rs : List Record). with_body_at e.point e.body (contents rs)) (sym here.is),
     )
 
 -- a file of one page has no other

@@ -1,4 +1,4 @@
--- The body that a list of records has under a point, and what a put and a delete make of it.
+-- The body that a list of records has under a point, and what an edit makes of it.
 use Rattle.std.proofs.Common.{◌≡◌, ◌≢◌, ℕ, zero, suc, ◌<◌, Bool, true, false, cond, List, [], ◌∷◌, ◌++◌, map, filter, length, get_or, Option, Some, None, refl, sym, ap, ◌∙◌, arith}
 use Rattle.std.specs.List.{AllByRecursion}
 use Rattle.std.specs.Option.{option_or}
@@ -104,8 +104,8 @@ module _ (before records after : List Record) (p : List ℕ) (lack : AllByRecurs
       ∙ ap (λ (o : Option (List ℕ)). option_or o (body_at p after)) (body-lacking p records h)
       ∙ body-lacking p after lack'
 
-  pub there : (k : ℕ) (d : Record) → k < length records → (get_or records k d).key ≡ p → (body : List ℕ) × (finite.get (contents (before ++ (records ++ after))) p ≡ Some body)
-  there k d lt e =
+  pub found_at : (k : ℕ) (d : Record) → k < length records → (get_or records k d).key ≡ p → (body : List ℕ) × (finite.get (contents (before ++ (records ++ after))) p ≡ Some body)
+  found_at k d lt e =
       let found = body_there p records k d lt e in (
         found.0,
         get-contents (before ++ (records ++ after)) p

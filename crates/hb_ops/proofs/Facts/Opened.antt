@@ -1,6 +1,8 @@
 -- A page whose leaf at a point has records: its weight and its tree once they are changed.
-use Rattle.std.proofs.Common.{◌≡◌, ◌≢◌, ℕ, ◌+◌, ◌<◌, ◌≤◌, ◌==◌, max, Bool, true, false, cond, List, [], ◌∷◌, ◌++◌, length, get_or, map, sum, take, drop, All, AllPairs, Any, Option, Some, None, sym, ap, subst, ◌∙◌, arith, inl, inr, eq-eqb, ne_eqb, nat_lt}
-use Rattle.std.proofs.lemmas.List.{map-append, length-append, length-take, length-drop}
+use Rattle.std.proofs.Common.{◌≡◌, ◌≢◌, ℕ, ◌+◌, ◌<◌, ◌≤◌, ◌==◌, max, Bool, true, false, cond, List, [], ◌∷◌, ◌++◌, length, get_or, map, sum, take, drop, All, AllPairs, Any, Option, Some, None, not, sym, ap, subst, ◌∙◌, arith, inl, inr, eq-eqb, ne_eqb, nat_lt}
+use Rattle.std.specs.Option.{is_some}
+use Rattle.std.proofs.lemmas.List.{get_or_default, map-append, length-append, length-take, length-drop}
+use Rattle.hb_space.specs.Edits.{Edit, record_with}
 use Rattle.std.proofs.lemmas.List.Elements.{All-head, All-tail}
 use Rattle.std.proofs.lemmas.List.Sums.{sum_by-append, sum_by-cons}
 use Rattle.hb_space.specs.Boxes.{Area, Holds, holds, side_below, side_from}
@@ -15,8 +17,8 @@ use Rattle.hb_frag.specs.Paths.{StaysInside, way_to}
 use Rattle.hb_frag.specs.Rules.{AreInOrder, IsInOrder, Precedes, capacity_of, point_of}
 use Rattle.hb_frag.proofs.Facts.OrderedLeaves.{sides_apart}
 use Rattle.hb_layout.specs.declared.meta.Meta.{Meta}
-use Rattle.hb_ops.specs.Recording.{HasGap, HasPlace, IsOpenAt, FitsDel, FitsPut, joined, on_records, page_with, put_page}
-use Rattle.hb_ops.proofs.Facts.Places.{gap_lacks, joined_at, place_has}
+use Rattle.hb_ops.specs.Recording.{EditsAddNoWeight, FitsEdit, HasPoint, HasSpot, IsOpenAt, StandsAt, edited_page, on_records, page_with, with_body}
+use Rattle.hb_ops.proofs.Facts.Places.{edited_at, gap_lacks, place_has}
 use Rattle.hb_ops.proofs.Facts.Tips.{first_append, first_held, parted, tip_at, unchanged}
 use Rattle.hb_lemmas.specs.Places.{IsGapFor, IsPlaceOf}
 use Rattle.hb_space.specs.Points.{point_cmp}
@@ -40,23 +42,14 @@ placed_records (Some placed) = records_of placed.leaf
 pub same_records : (page : LivePage) (p : List ℕ) (records others : List Record) (a b : Area) → leaf_at page p ≡ Some (record { leaf = Records records; area = a }) → leaf_at page p ≡ Some (record { leaf = Records others; area = b }) → records ≡ others
 same_records page p records others a b e f = ap placed_records (sym e ∙ f)
 
--- a page that a put or a delete fits is open
-pub open_by_put : (meta : Meta) (page : LivePage) (rec : Record) → (fits : FitsPut meta page rec) → IsOpenAt meta page rec.key fits.absent.records
-open_by_put meta page rec fits = record {
+-- a page that an edit fits is open
+pub open_by_edit : (meta : Meta) (page : LivePage) (e : Edit) → (fits : FitsEdit meta page e) → IsOpenAt meta page e.point fits.found.records
+open_by_edit meta page e fits = record {
   made = fits.made;
   level = fits.level;
-  inside = first_held rec.key page.frag page.area (record { leaf = Records fits.absent.records; area = fits.absent.area }) fits.made.well_cut fits.absent.leaf;
-  area = fits.absent.area;
-  leaf = fits.absent.leaf;
-}
-
-pub open_by_del : (meta : Meta) (page : LivePage) (point : List ℕ) → (fits : FitsDel meta page point) → IsOpenAt meta page point fits.there.records
-open_by_del meta page point fits = record {
-  made = fits.made;
-  level = fits.level;
-  inside = first_held point page.frag page.area (record { leaf = Records fits.there.records; area = fits.there.area }) fits.made.well_cut fits.there.leaf;
-  area = fits.there.area;
-  leaf = fits.there.leaf;
+  inside = first_held e.point page.frag page.area (record { leaf = Records fits.found.records; area = fits.found.area }) fits.made.well_cut fits.found.leaf;
+  area = fits.found.area;
+  leaf = fits.found.leaf;
 }
 
 -- what leaves weigh, one of them apart
@@ -74,61 +67,99 @@ weight_changed page p records area change cut e =
     let new : weight_of (page_with p change page).frag ≡ sum (map leaf_weight at.before) + (max 1 (length (change records)) + sum (map leaf_weight at.after)) = ap (λ (ls : List Leaf). sum (map leaf_weight ls)) (at.changed (on_records change)) ∙ weights at.before (Records (change records)) at.after in
     omega arith
 
-length-joined : (records : List Record) (rec : Record) (i : ℕ) → IsGapFor point_cmp point_of records rec.key i → length (joined rec records) ≡ length records + 1
-length-joined records rec i gap =
-    let parts : length (joined rec records) ≡ length (take i records) + length (rec ∷ drop i records) = ap length (joined_at records rec i gap) ∙ length-append (take i records) (rec ∷ drop i records) in
-    omega (arith, parts, length-take i records, length-drop i records, gap.in_range)
+-- how many records a leaf has once it is edited
+length-edited : (there : Bool) (records : List Record) (p : List ℕ) (body : Option (List ℕ)) (i : ℕ) → AllPairs Precedes records → StandsAt there p records i → i + cond there 1 0 ≤ length records → length (with_body p body records) + cond there 1 0 ≡ length records + length (record_with p body)
+length-edited there records p body i rise here inside =
+    let behind = i + cond there 1 0 in
+    let parts : length (with_body p body records) ≡ length (take i records) + length (record_with p body ++ drop behind records) = ap length (edited_at there records p body i rise here) ∙ length-append (take i records) (record_with p body ++ drop behind records) in
+    omega (arith, parts, inside, length-append (record_with p body) (drop behind records), length-take i records, length-drop behind records)
 
-one_more : (records : List Record) → (n m : ℕ) → n + max 1 (length records) ≡ m + max 1 (length records + 1) → n ≡ m + cond (length records == 0) 0 1
-one_more [] n m e = omega arith
-one_more (x ∷ xs) n m e =
+pub stands_inside : (there : Bool) (records : List Record) (p : List ℕ) (i : ℕ) → StandsAt there p records i → i + cond there 1 0 ≤ length records
+stands_inside true records p i here = omega (arith, here.in_range)
+stands_inside false records p i here = omega (arith, here.in_range)
+
+-- the page weighs as much more as the leaf
+pub weight_edited : (meta : Meta) (page : LivePage) (e : Edit) (records : List Record) (i : ℕ) → IsOpenAt meta page e.point records → StandsAt e.there e.point records i →
+    (n : ℕ) × (weight_of (edited_page e page).frag + max 1 (length records) ≡ weight_of page.frag + max 1 n) × (n + cond e.there 1 0 ≡ length records + length (record_with e.point e.body))
+weight_edited meta page e records i opened stands =
+    let rise = rising_at page e.point records opened.area opened.made.in_order opened.leaf in (
+      length (with_body e.point e.body records),
+      weight_changed page e.point records opened.area (with_body e.point e.body) opened.made.well_cut opened.leaf,
+      length-edited e.there records e.point e.body i rise stands (stands_inside e.there records e.point i stands),
+    )
+
+-- where no record stands the weight after an edit is this
+abbrev pub weight_more : List Record → Option (List ℕ) → ℕ
+weight_more records body = cond (length records == 0) 0 (cond (is_some body) 1 0)
+
+one_more : (records : List Record) (body : Option (List ℕ)) (p : List ℕ) (n m k : ℕ) → k ≡ length records + length (record_with p body) → n + max 1 (length records) ≡ m + max 1 k → n ≡ m + weight_more records body
+one_more [] (Some body) p n m k is e = omega arith
+one_more [] None p n m k is e = omega arith
+one_more (x ∷ xs) (Some body) p n m k is e =
     let more : ◌≡◌ {A = ℕ} (cond (length (x ∷ xs) == 0) 0 1) 1 = ap (λ (b : Bool). cond b 0 1) (ne_eqb (length (x ∷ xs)) 0 (λ e. omega arith)) in
     omega arith
+one_more (x ∷ xs) None p n m k is e =
+    let more : ◌≡◌ {A = ℕ} (cond (length (x ∷ xs) == 0) 0 0) 0 = ap (λ (b : Bool). cond b 0 0) (ne_eqb (length (x ∷ xs)) 0 (λ e. omega arith)) in
+    omega arith
 
-pub weight_after_put : (meta : Meta) (page : LivePage) (rec : Record) (records : List Record) (i : ℕ) → IsOpenAt meta page rec.key records → IsGapFor point_cmp point_of records rec.key i → weight_of (put_page rec page).frag ≡ weight_of page.frag + cond (length records == 0) 0 1
-weight_after_put meta page rec records i opened gap =
-    let changed = weight_changed page rec.key records opened.area (joined rec) opened.made.well_cut opened.leaf in
-    one_more records (weight_of (put_page rec page).frag) (weight_of page.frag) (changed ∙ ap (λ (n : ℕ). weight_of page.frag + max 1 n) (length-joined records rec i gap))
+pub weight_after_gap : (meta : Meta) (page : LivePage) (e : Edit) (records : List Record) (i : ℕ) → e.there ≡ false → IsOpenAt meta page e.point records → StandsAt e.there e.point records i → weight_of (edited_page e page).frag ≡ weight_of page.frag + weight_more records e.body
+weight_after_gap meta page e records i absent opened stands =
+    let changed = weight_edited meta page e records i opened stands in
+    let none : ◌≡◌ {A = ℕ} (cond e.there 1 0) 0 = ap (λ (b : Bool). cond b 1 0) absent in
+    one_more records e.body e.point (weight_of (edited_page e page).frag) (weight_of page.frag) changed.0 (omega (arith, changed.2, none)) changed.1
 
--- so a put is allowed where the point has a gap and the page has room, and not without room, nor where the point is there
-pub gap_found : (meta : Meta) (page : LivePage) (rec : Record) (records : List Record) (i : ℕ) → IsOpenAt meta page rec.key records → IsGapFor point_cmp point_of records rec.key i → weight_of page.frag + cond (length records == 0) 0 1 ≤ meta.dcap → HasGap meta page rec records i
-gap_found meta page rec records i opened gap room = record {
+-- an edit fits where the point stands as it asks and the page has room
+pub spot_found : (meta : Meta) (page : LivePage) (e : Edit) (records : List Record) (i : ℕ) → IsOpenAt meta page e.point records → StandsAt e.there e.point records i → (e.there ≡ false → weight_of page.frag + weight_more records e.body ≤ meta.dcap) → HasSpot meta page e records i
+spot_found meta page e records i opened stands room = record {
   fits = record {
     made = opened.made;
     level = opened.level;
-    absent = record { records = records; area = opened.area; leaf = opened.leaf; keeps = gap_lacks records rec.key i gap };
-    room = omega (arith, weight_after_put meta page rec records i opened gap);
+    found = record { records = records; area = opened.area; leaf = opened.leaf; keeps = has_point e.there stands };
+    room = λ absent. omega (arith, room absent, weight_after_gap meta page e records i absent opened stands);
   };
   opened = opened;
-  gap = gap;
+  stands = stands;
 }
+  where
+    has_point : (there : Bool) → StandsAt there e.point records i → HasPoint there e.point records
+    has_point true here = place_has records e.point i here
+    has_point false gap = gap_lacks records e.point i gap
 
-pub no_room : (meta : Meta) (page : LivePage) (rec : Record) (records : List Record) (i : ℕ) → IsOpenAt meta page rec.key records → IsGapFor point_cmp point_of records rec.key i → meta.dcap < weight_of page.frag + cond (length records == 0) 0 1 → ¬ (FitsPut meta page rec)
-no_room meta page rec records i opened gap full fits = omega (arith, weight_after_put meta page rec records i opened gap, fits.room)
+-- and not without room, nor where it stands otherwise
+pub no_room : (meta : Meta) (page : LivePage) (e : Edit) (records : List Record) (i : ℕ) → e.there ≡ false → IsOpenAt meta page e.point records → StandsAt e.there e.point records i → meta.dcap < weight_of page.frag + weight_more records e.body → ¬ (FitsEdit meta page e)
+no_room meta page e records i absent opened stands full fits = omega (arith, weight_after_gap meta page e records i absent opened stands, full, fits.room absent)
 
-pub taken : (meta : Meta) (page : LivePage) (rec : Record) (records : List Record) (i : ℕ) → IsOpenAt meta page rec.key records → IsPlaceOf point_of records rec.key i → ¬ (FitsPut meta page rec)
-taken meta page rec records i opened here fits =
-    let same : fits.absent.records ≡ records = same_records page rec.key fits.absent.records records fits.absent.area opened.area fits.absent.leaf opened.leaf in
-    let some : Record = record { key = []; body = [] } in
-    subst (λ (rs : List Record). All (λ (r : Record). r.key ≢ rec.key) rs) same fits.absent.keeps i some here.in_range (here.same_key some)
+pub stands_otherwise : (meta : Meta) (page : LivePage) (e : Edit) (there : Bool) (records : List Record) (i : ℕ) → e.there ≡ there → IsOpenAt meta page e.point records → StandsAt (not there) e.point records i → ¬ (FitsEdit meta page e)
+stands_otherwise meta page e there records i is opened stands fits =
+    let same : fits.found.records ≡ records = same_records page e.point fits.found.records records fits.found.area opened.area fits.found.leaf opened.leaf in
+    never there (subst (λ (b : Bool). HasPoint b e.point records) is (subst (λ (rs : List Record). HasPoint e.there e.point rs) same fits.found.keeps)) stands
+  where
+    never : (b : Bool) → HasPoint b e.point records → StandsAt (not b) e.point records i → ⊥
+    never true any gap = gap_lacks records e.point i gap any.0 any.1 any.2 (ap (λ (r : Record). r.key) any.3 ∙ any.4)
+    never false lack here = let some : Record = record { key = []; body = [] } in lack i some here.in_range (here.same_key some)
 
--- and a delete where the point is there, and not where it has a gap
-pub place_found : (meta : Meta) (page : LivePage) (point : List ℕ) (records : List Record) (i : ℕ) → IsOpenAt meta page point records → IsPlaceOf point_of records point i → HasPlace meta page point records i
-place_found meta page point records i opened here = record {
-  fits = record {
-    made = opened.made;
-    level = opened.level;
-    there = record { records = records; area = opened.area; leaf = opened.leaf; keeps = place_has records point i here };
-  };
-  opened = opened;
-  found = here;
-}
+-- a point that is among records has a place there
+pub place_from : (records : List Record) (p : List ℕ) → Any (λ (r : Record). r.key ≡ p) records → (i : ℕ) × IsPlaceOf point_of records p i
+place_from records p any = (any.0, record {
+  in_range = any.2;
+  same_key = λ d. ap (λ (r : Record). r.key) (get_or_default records any.0 d any.1 any.2 ∙ any.3) ∙ any.4;
+})
 
-pub missing : (meta : Meta) (page : LivePage) (point : List ℕ) (records : List Record) (i : ℕ) → IsOpenAt meta page point records → IsGapFor point_cmp point_of records point i → ¬ (FitsDel meta page point)
-missing meta page point records i opened gap fits =
-    let same : fits.there.records ≡ records = same_records page point fits.there.records records fits.there.area opened.area fits.there.leaf opened.leaf in
-    let any : Any (λ (r : Record). r.key ≡ point) records = subst (λ (rs : List Record). Any (λ (r : Record). r.key ≡ point) rs) same fits.there.keeps in
-    gap_lacks records point i gap any.0 any.1 any.2 (ap (λ (r : Record). r.key) any.3 ∙ any.4)
+pub edits_add_no_weight : EditsAddNoWeight
+edits_add_no_weight meta page e fits there =
+    let records = fits.found.records in
+    let any : Any (λ (r : Record). r.key ≡ e.point) records = subst (λ (b : Bool). HasPoint b e.point records) there fits.found.keeps in
+    let at = place_from records e.point any in
+    let stands : StandsAt e.there e.point records at.0 = subst (λ (b : Bool). StandsAt b e.point records at.0) (sym there) at.1 in
+    let changed = weight_edited meta page e records at.0 (open_by_edit meta page e fits) stands in
+    let one : ◌≡◌ {A = ℕ} (cond e.there 1 0) 1 = ap (λ (b : Bool). cond b 1 0) there in
+    let inside = at.1.in_range in
+    by e.body changed.0 (omega (arith, changed.2, one)) changed.1 (omega (arith, inside))
+  where
+    by : (body : Option (List ℕ)) (n : ℕ) → n + 1 ≡ length fits.found.records + length (record_with e.point body) → weight_of (edited_page e page).frag + max 1 (length fits.found.records) ≡ weight_of page.frag + max 1 n → 0 < length fits.found.records →
+        (weight_of (edited_page e page).frag ≤ weight_of page.frag) × ((b : List ℕ) → body ≡ Some b → weight_of (edited_page e page).frag ≡ weight_of page.frag)
+    by None n counted weighs some = (omega arith, (λ b is. cc))
+    by (Some body) n counted weighs some = (omega arith, (λ b is. omega arith))
 
 -- what a page weighs that is open
 pub weighs_little : (meta : Meta) (page : LivePage) (point : List ℕ) (records : List Record) → IsOpenAt meta page point records → weight_of page.frag ≤ meta.dcap

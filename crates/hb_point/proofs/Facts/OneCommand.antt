@@ -3,8 +3,9 @@ use Rattle.std.proofs.Common.{◌≡◌, inl, inr, ℕ, ◌<◌, ◌≤◌, List
 use Rattle.hb_space.specs.declared.records.Record.{Record}
 use Rattle.hb_frag.specs.declared.pages.LivePage.{LivePage}
 use Rattle.hb_ops.specs.declared.operations.Op.TheVariants.{Put, Del}
+use Rattle.hb_ops.specs.declared.operations.Op.TheVariants as ops
 use Rattle.hb_set.specs.declared.commands.Command.{Command}
-use Rattle.hb_set.specs.declared.commands.Command.TheVariants.{Insert, Delete, Lookup, Search}
+use Rattle.hb_set.specs.declared.commands.Command.TheVariants.{Insert, Delete, Change, Lookup, Search}
 use Rattle.hb_set.specs.declared.commands.Reply.TheVariants as replies
 use Rattle.hb_set.specs.declared.scripts.Line.{Line}
 use Rattle.hb_activity.specs.declared.activities.Activity.TheVariants.{SessionSplit}
@@ -54,6 +55,20 @@ module _ (s : Sight) (line : Line) (id : ℕ) (page : LivePage) where
       only other (inl row) = row.deed_is
       only other (inr row) = absurd (never_both page p found there row.absent)
 
+  pub only_changes : (rec found : Record) → StandsThere page rec.key found → IsOnly (DoesThere s line (Change rec) id page) (takes_effect s.place line replies.Done (Some (ops.Change id rec)) [])
+  only_changes rec found there = record { done = inl (record { found = found; there = there; deed_is = refl }); only = only }
+    where
+      only : (other : Deed) → DoesThere s line (Change rec) id page other → other ≡ takes_effect s.place line replies.Done (Some (ops.Change id rec)) []
+      only other (inl row) = row.deed_is
+      only other (inr row) = absurd (never_both page rec.key found there row.absent)
+
+  pub only_unchanged : (rec : Record) → StandsNot page rec.key → IsOnly (DoesThere s line (Change rec) id page) (takes_effect s.place line replies.Absent None [])
+  only_unchanged rec absent = record { done = inr (record { absent = absent; deed_is = refl }); only = only }
+    where
+      only : (other : Deed) → DoesThere s line (Change rec) id page other → other ≡ takes_effect s.place line replies.Absent None []
+      only other (inl row) = absurd (never_both page rec.key row.found row.there absent)
+      only other (inr row) = row.deed_is
+
   pub only_nothing : (p : List ℕ) → StandsNot page p → IsOnly (DoesThere s line (Delete p) id page) (takes_effect s.place line replies.Absent None [])
   only_nothing p absent = record { done = inr (record { absent = absent; deed_is = refl }); only = only }
     where
@@ -84,6 +99,8 @@ module _ (s : Sight) (line : Line) (id : ℕ) (page : LivePage) where
   one_command (Insert rec) deed other order (inr (inr a)) b = both (DoesThere s line (Insert rec) id page) _ deed other (only_splits rec a.level a.absent a.full) (inr (inr a)) b
   one_command (Delete p) deed other order (inl a) b = both (DoesThere s line (Delete p) id page) _ deed other (only_deletes p a.found a.there) (inl a) b
   one_command (Delete p) deed other order (inr a) b = both (DoesThere s line (Delete p) id page) _ deed other (only_nothing p a.absent) (inr a) b
+  one_command (Change rec) deed other order (inl a) b = both (DoesThere s line (Change rec) id page) _ deed other (only_changes rec a.found a.there) (inl a) b
+  one_command (Change rec) deed other order (inr a) b = both (DoesThere s line (Change rec) id page) _ deed other (only_unchanged rec a.absent) (inr a) b
   one_command (Lookup p) deed other order (inl a) b = both (DoesThere s line (Lookup p) id page) _ deed other (only_found p a.found a.there (λ found there. one_stands page p found a.found order there a.there)) (inl a) b
   one_command (Lookup p) deed other order (inr a) b = both (DoesThere s line (Lookup p) id page) _ deed other (only_misses p a.absent) (inr a) b
   one_command (Search area) deed other order a b = absurd a

@@ -12,7 +12,7 @@ use Rattle.hb_space.specs.Points.{point_cmp}
 use Rattle.hb_space.specs.declared.records.Record.{Record}
 use Rattle.hb_space.proofs.Facts.PointOrder.{exact_points}
 use Rattle.hb_set.specs.declared.commands.Command.{Command}
-use Rattle.hb_set.specs.declared.commands.Command.TheVariants.{Insert, Delete, Lookup, Search}
+use Rattle.hb_set.specs.declared.commands.Command.TheVariants.{Insert, Delete, Change, Lookup, Search}
 use Rattle.hb_set.specs.declared.commands.Reply.{Reply}
 use Rattle.hb_set.specs.declared.commands.Reply.TheVariants.{Done, Duplicate, Absent, Full, NoMemory, ReadFault}
 use Rattle.hb_set.specs.Machine.{RecordSet, record_of, set_records, if_there, found_or_missing, reply_of, set_after, Answers, attributes, HasAttributes}
@@ -28,6 +28,7 @@ is_replied r = true
 pub replied : (c : Command) (m : RecordSet) → is_replied (reply_of c m) ≡ true
 replied (Insert r) m = elim (map.get m r.key) as (λ o. is_replied (if_there o Duplicate Done) ≡ true) [ None ↦ refl | Some body ↦ refl ]
 replied (Delete p) m = elim (map.get m p) as (λ o. is_replied (if_there o Done Absent) ≡ true) [ None ↦ refl | Some body ↦ refl ]
+replied (Change r) m = elim (map.get m r.key) as (λ o. is_replied (if_there o Done Absent) ≡ true) [ None ↦ refl | Some body ↦ refl ]
 replied (Lookup p) m = elim (map.get m p) as (λ o. is_replied (found_or_missing o) ≡ true) [ None ↦ refl | Some body ↦ refl ]
 replied (Search a) m = refl
 
@@ -74,6 +75,7 @@ if_there_both P (Some body) m n p q = p
 pub attributes-set_after : (c : Command) (m : RecordSet) → HasAttributes (attributes c) m → HasAttributes (attributes c) (set_after c m)
 attributes-set_after (Insert r) m h = if_there_both (HasAttributes (length r.key)) (map.get m r.key) m (map.insert m r.key r.body) h (attributes-insert (length r.key) m r.key r.body refl h)
 attributes-set_after (Delete p) m h = if_there_both (HasAttributes (length p)) (map.get m p) (map.remove m p) m (attributes-remove (length p) m p h) h
+attributes-set_after (Change r) m h = if_there_both (HasAttributes (length r.key)) (map.get m r.key) (map.insert m r.key r.body) m (attributes-insert (length r.key) m r.key r.body refl h) h
 attributes-set_after (Lookup p) m h = h
 attributes-set_after (Search a) m h = h
 

@@ -8,7 +8,7 @@ use Rattle.std.proofs.lemmas.List.Sums.{sum_by-cons}
 use Rattle.hb_space.specs.Points.{point_cmp}
 use Rattle.hb_space.specs.declared.records.Record.{Record}
 use Rattle.hb_set.specs.declared.commands.Command.{Command}
-use Rattle.hb_set.specs.declared.commands.Command.TheVariants.{Insert, Delete, Lookup, Search}
+use Rattle.hb_set.specs.declared.commands.Command.TheVariants.{Insert, Delete, Change, Lookup, Search}
 use Rattle.hb_set.specs.declared.commands.Reply.{Reply}
 use Rattle.hb_set.specs.declared.commands.Reply.TheVariants.{Done, Duplicate, Absent}
 use Rattle.hb_set.specs.Machine.{RecordSet, if_there, found_or_missing, reply_of, set_after}
@@ -45,9 +45,16 @@ delete_sized m p (Some body) is =
     let some = some_there m p body is in
     omega (arith, long, some)
 
+change_sized : (m : RecordSet) (r : Record) (o : Option (List ℕ)) → map.get m r.key ≡ o → IsSized m (if_there o (map.insert m r.key r.body) m) (Change r) (if_there o Done Absent)
+change_sized m r None is = none_more m (Change r) Absent refl
+change_sized m r (Some body) is =
+    let long = map.len-insert nat_list_cmp_total m r.key r.body ∙ ap (λ (o : Option (List ℕ)). cond (is_some o) (map.len m) (map.len m + 1)) is in
+    omega (arith, long)
+
 sized : (m : RecordSet) (c : Command) → IsSized m (set_after c m) c (reply_of c m)
 sized m (Insert r) = insert_sized m r (map.get m r.key) refl
 sized m (Delete p) = delete_sized m p (map.get m p) refl
+sized m (Change r) = change_sized m r (map.get m r.key) refl
 sized m (Lookup p) = elim (map.get m p) as (λ o. IsSized m m (Lookup p) (found_or_missing o)) [ None ↦ refl | Some body ↦ refl ]
 sized m (Search a) = refl
 

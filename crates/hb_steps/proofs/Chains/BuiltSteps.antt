@@ -19,7 +19,7 @@ use Rattle.hb_latch.specs.Modes.{goes_beside}
 use Rattle.hb_latch.specs.Tables.{IsGrantable}
 use Rattle.hb_log_codec.specs.Groups.{Logged, group_bytes}
 use Rattle.hb_ops.specs.Files.{if_live}
-use Rattle.hb_ops.specs.Operations.{Change, IsAllowedOn, change_of, reads_of}
+use Rattle.hb_ops.specs.Operations.{FileChange, IsAllowedOn, change_of, reads_of}
 use Rattle.hb_store.specs.Calls.{IsReady, change_here, with_op, use_changed}
 use Rattle.hb_store.specs.Making.{group_here, page_images_needed}
 use Rattle.hb_ops.proofs.Facts.SetPages.{set_not}
@@ -50,7 +50,7 @@ looks_is s o = ap (λ (f : ℕ → Option LivePage). option_and_then f o) (fun_e
 abbrev pub read_in : Scene → Op → ℕ → Option LivePage
 read_in s op place = live_in s (get_or (reads_of op) place 0)
 
-abbrev pub change_in : Scene → Op → Change
+abbrev pub change_in : Scene → Op → FileChange
 change_in s op = change_of op s.meta (read_in s op 0) (read_in s op 1) (read_in s op 2)
 
 abbrev pub group_in : Scene → Op → Logged
@@ -99,7 +99,7 @@ does_op s op may = record {
   commits = record {
     turn = refl;
     stopped = refl;
-    meta = ap (λ (c : Change). c.meta) (sym (change_is s op));
+    meta = ap (λ (c : FileChange). c.meta) (sym (change_is s op));
     made = λ id made. pages_are s op id;
     others = λ id off. inl (pages_stay s op id off);
     in_log = λ id. in_log_is (with_done op s) id ∙ among_in_log id (change_in s op).pages (reads_of op) s.in_log
@@ -168,7 +168,7 @@ done_in s op uses = use_changed (changed_in op s) uses
 
 done_is : (s : Scene) (op : Option Op) (uses : List Use) → done_in s op uses ≡ use_done op (store_of s) uses
 done_is s None uses = refl
-done_is s (Some op) uses = ap (λ (c : Change). use_changed (map (λ (one : ℕ × Page). one.0) c.pages) uses) (sym (change_is s op))
+done_is s (Some op) uses = ap (λ (c : FileChange). use_changed (map (λ (one : ℕ × Page). one.0) c.pages) uses) (sym (change_is s op))
 
 -- no job leaves the queue, and these join it
 pub queued : {deed : Deed} {old new : List Job} → LeavesBy deed.takes old old → AddsJobs deed.adds old new → ChangesQueue deed old new

@@ -7,7 +7,7 @@ use Rattle.hb_steps.proofs.Memory.KeptPages.{KeepsPages}
 use Rattle.hb_frag.specs.Paths.{part_at}
 use Rattle.hb_frag.specs.Trees.{Tip}
 use Rattle.hb_ops.specs.Files.{page_at}
-use Rattle.hb_ops.specs.Operations.{Change, IsAllowed, IsLicensed, OpHas, change_of, nth_read, reads_of, with_changed_pages}
+use Rattle.hb_ops.specs.Operations.{FileChange, IsAllowed, IsLicensed, OpHas, change_of, nth_read, reads_of, with_changed_pages}
 use Rattle.hb_ops.proofs.Facts.PageNumberLaws.{page_at-zero}
 use Rattle.hb_ops.specs.Posting.{GaveAway}
 use Rattle.hb_ops.proofs.Facts.ReachedPages.{Reaches, pages_set}
@@ -53,10 +53,10 @@ module _ (st : StoreState) (s : FileState) (keeps : KeepsPages st) (file : Shows
         (one.0.0, omega (arith, one.0.1, well.next, high))
 
     page_after : (q : ℕ) → page_of (effect_of s op) q ≡ set_pages (change_here st op).pages (page_of s) q
-    page_after q = ap (λ (c : Change). page_at (with_changed_pages c.pages s.pages) q) (sym change_in_file) ∙ pages_set (change_here st op).pages s.pages reach q
+    page_after q = ap (λ (c : FileChange). page_at (with_changed_pages c.pages s.pages) q) (sym change_in_file) ∙ pages_set (change_here st op).pages s.pages reach q
 
     pub meta_after : (effect_of s op).meta ≡ (change_here st op).meta
-    meta_after = ap (λ (c : Change). c.meta) (sym change_in_file)
+    meta_after = ap (λ (c : FileChange). c.meta) (sym change_in_file)
 
     -- a page in memory afterwards is one of the file afterwards
     pub shown_after : (id : ℕ) (page : Page) → set_pages (change_here st op).pages (in_memory st) id ≡ Some page → page_of (effect_of s op) id ≡ Some page

@@ -13,7 +13,7 @@ use Rattle.hb_steps.proofs.TwoSteps.OnePiece.{one_queue}
 use Rattle.hb_steps.specs.Performing.{DoesOp}
 use Rattle.hb_steps.specs.Using.{use_done, use_held}
 use Rattle.hb_log_codec.specs.Groups.{Logged, group_bytes}
-use Rattle.hb_ops.specs.Operations.{Change, IsAllowedOn, change_of, reads_of}
+use Rattle.hb_ops.specs.Operations.{FileChange, IsAllowedOn, change_of, reads_of}
 use Rattle.hb_pool.specs.Frames.{Use}
 use Rattle.hb_pool.specs.Pools.{frame_of}
 use Rattle.hb_store.specs.Calls.{IsAllowedHere, change_here, read_here, use_changed}
@@ -189,14 +189,14 @@ module _ (f g : StoreState) (alike : KeepsAllButPages f g) (agree : Agree f g) w
       first.group ∙ ap (λ (l : List Waiting). l ++ record { bytes = group_bytes (group_here f op); mark = mark } ∷ []) (ap (λ (s : StoreState). s.log.groups) (sym alike))
       ∙ ap (λ (x : Logged). g.log.groups ++ record { bytes = group_bytes x; mark = mark } ∷ []) (same_group op reads) ∙ sym second.group in
       let in_log : (id : ℕ) → is_in_log new id ≡ is_in_log next id =
-      λ id. one.in_log id ∙ ap (λ (c : Change). (has_page id c.pages || (is_among id (reads_of op) || is_in_log f id))) change
+      λ id. one.in_log id ∙ ap (λ (c : FileChange). (has_page id c.pages || (is_among id (reads_of op) || is_in_log f id))) change
       ∙ ap (λ (b : Bool). (has_page id (change_here g op).pages || (is_among id (reads_of op) || b))) (same_in_log id) ∙ sym (two.in_log id) in
       let dirty : (id : ℕ) → is_dirty new id ≡ is_dirty next id =
-      λ id. one.dirty id ∙ ap (λ (c : Change). (has_page id c.pages || is_dirty f id)) change ∙ ap (λ (b : Bool). (has_page id (change_here g op).pages || b)) (same_dirty id) ∙ sym (two.dirty id) in
+      λ id. one.dirty id ∙ ap (λ (c : FileChange). (has_page id c.pages || is_dirty f id)) change ∙ ap (λ (b : Bool). (has_page id (change_here g op).pages || b)) (same_dirty id) ∙ sym (two.dirty id) in
       record {
         rest = λ i. record {
           turn = (two.turn ∙ ap (λ (s : StoreState). s.turn) alike ∙ sym one.turn) i;
-          meta = (two.meta ∙ ap (λ (c : Change). c.meta) (sym change) ∙ sym one.meta) i;
+          meta = (two.meta ∙ ap (λ (c : FileChange). c.meta) (sym change) ∙ sym one.meta) i;
           log = sym (same_log new.log next.log (one.area ∙ ap (λ (s : StoreState). s.log.area) (sym alike) ∙ sym two.area) (one.len ∙ ap (λ (s : StoreState). s.log.len) (sym alike) ∙ sym two.len)
               (one.written ∙ ap (λ (s : StoreState). s.log.written) (sym alike) ∙ sym two.written) groups) i;
           pages = next.pages;
@@ -206,7 +206,7 @@ module _ (f g : StoreState) (alike : KeepsAllButPages f g) (agree : Agree f g) w
         };
         pages = λ id a b x y.
             agree_set (change_here f op).pages (in_memory f) (in_memory g) agree id a b (brings op mark f new one id a x)
-            (ap (λ (c : Change). set_pages c.pages (in_memory g) id) change ∙ brings op mark g next two id b y);
+            (ap (λ (c : FileChange). set_pages c.pages (in_memory g) id) change ∙ brings op mark g next two id b y);
       }
 
   one_done : CommitsBringNone → (op : Option Op) (mark : ℕ) (new next : StoreState) → MayDo op mark f new → MayDo op mark g next → AreAlike new next
@@ -229,7 +229,7 @@ module _ (f g : StoreState) (alike : KeepsAllButPages f g) (agree : Agree f g) w
   -- an operation changes the same pages, and so the order of use in the same way
   one_use : (op : Option Op) (mark : ℕ) (new next : StoreState) (came : List Use) → MayDo op mark f new → MayDo op mark g next → use_done op f came ≡ use_done op g came
   one_use None mark new next came first second = refl
-  one_use (Some op) mark new next came first second = ap (λ (c : Change). use_changed (map (λ (page : ℕ × Page). page.0) c.pages) came) (same_change op (reads_alike op first.allowed second.allowed))
+  one_use (Some op) mark new next came first second = ap (λ (c : FileChange). use_changed (map (λ (page : ℕ × Page). page.0) c.pages) came) (same_change op (reads_alike op first.allowed second.allowed))
 
   -- A deed that is done on a machine over two such stores makes machines of it that are one, where the same pages came and were pinned:
   -- the order of use tells which pages are in memory.

@@ -12,7 +12,7 @@ use Rattle.hb_frag.specs.declared.pages.Page.TheVariants.{Live, Free}
 use Rattle.hb_frag.specs.Grammar.{HasSpelling}
 use Rattle.hb_layout.specs.declared.meta.Meta.{Meta}
 use Rattle.hb_ops.specs.declared.operations.Op.{Op}
-use Rattle.hb_ops.specs.declared.operations.Op.TheVariants.{Put, Del, Extract, Post, Merge, Grow}
+use Rattle.hb_ops.specs.declared.operations.Op.TheVariants.{Put, Del, Change, Extract, Post, Merge, Grow}
 use Rattle.hb_ops.specs.Operations.{IsAllowedOn, reads_of}
 use Rattle.hb_log_codec.specs.Groups.{FitsGroup, FitsPageImage, FitsOp}
 use Rattle.hb_store.specs.States.{AreGood, IsGoodPage, IsStanding}
@@ -66,6 +66,7 @@ module _ (P : ℕ → Option Page) (I : ℕ → Bool) where
 pub few_reads : (op : Op) → length (reads_of op) ≤ 3
 few_reads (Put page rec) = omega arith
 few_reads (Del page point) = omega arith
+few_reads (Change page rec) = omega arith
 few_reads (Extract source fresh path cuts free_after) = omega arith
 few_reads (Post parent at inner area) = omega arith
 few_reads (Merge parent keep gone) = omega arith
@@ -83,6 +84,7 @@ three_apart a b c ab ac bc =
 pub distinct_reads : (op : Op) (meta : Meta) (first second third : Option LivePage) → IsAllowedOn op meta first second third → AllPairs (λ i j. i ≢ j) (reads_of op)
 distinct_reads (Put page rec) meta first second third allowed = one_apart page
 distinct_reads (Del page point) meta first second third allowed = one_apart page
+distinct_reads (Change page rec) meta first second third allowed = one_apart page
 distinct_reads (Extract source fresh path cuts free_after) meta first second third allowed = one_apart source
 distinct_reads (Post parent at inner area) meta first second third allowed = one_apart parent
 distinct_reads (Merge parent keep gone) meta None second third allowed = absurd allowed

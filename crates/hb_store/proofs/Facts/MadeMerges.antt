@@ -22,7 +22,7 @@ use Rattle.hb_frag.proofs.Facts.Renamed.{renames}
 use Rattle.hb_frag.proofs.Facts.SiblingWays.{way_leads}
 use Rattle.hb_layout.specs.declared.meta.Meta.{Meta}
 use Rattle.hb_ops.specs.declared.operations.Op.{Op}
-use Rattle.hb_ops.specs.declared.operations.Op.TheVariants.{Put, Del, Extract, Post, Merge, Grow}
+use Rattle.hb_ops.specs.declared.operations.Op.TheVariants.{Put, Del, Change, Extract, Post, Merge, Grow}
 use Rattle.hb_ops.specs.Merging.{FitsMerge, kept_page, merged_weight, parent_page, taken_over}
 use Rattle.hb_ops.specs.Operations.{change_of}
 use Rattle.hb_ops.specs.Sound.{FitsFile}
@@ -141,6 +141,7 @@ module _ (same : (t : Tree) → SaysTheSame t (normal t)) (within : WithinCapaci
       (All-cons W last [] (free meta.free limits.free_fits) (All-nil W)))
   writable_pages good (Put id rec) meta first second third limits fits allowed readable = spelled_all (Put id rec) meta first second third (good (Put id rec) meta first second third limits fits allowed readable tt)
   writable_pages good (Del id point) meta first second third limits fits allowed readable = spelled_all (Del id point) meta first second third (good (Del id point) meta first second third limits fits allowed readable tt)
+  writable_pages good (Change id rec) meta first second third limits fits allowed readable = spelled_all (Change id rec) meta first second third (good (Change id rec) meta first second third limits fits allowed readable tt)
   writable_pages good (Extract source fresh path cuts free_after) meta first second third limits fits allowed readable =
       let op = Extract source fresh path cuts free_after in spelled_all op meta first second third (good op meta first second third limits fits allowed readable tt)
   writable_pages good (Post parent at inner area) meta first second third limits fits allowed readable =

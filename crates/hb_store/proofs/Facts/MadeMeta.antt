@@ -11,7 +11,7 @@ use Rattle.hb_frag.specs.Trees.{Tree}
 use Rattle.hb_layout.specs.declared.meta.Meta.{Meta}
 use Rattle.hb_ops.specs.declared.leaf_cuts.LeafCut.{LeafCut}
 use Rattle.hb_ops.specs.declared.operations.Op.{Op}
-use Rattle.hb_ops.specs.declared.operations.Op.TheVariants.{Put, Del, Extract, Post, Merge, Grow}
+use Rattle.hb_ops.specs.declared.operations.Op.TheVariants.{Put, Del, Change, Extract, Post, Merge, Grow}
 use Rattle.hb_ops.specs.Allocating.{allocated}
 use Rattle.hb_ops.specs.Extracting.{fresh_page, source_page, split_pages}
 use Rattle.hb_ops.specs.Merging.{kept_page, parent_page, released}
@@ -77,6 +77,8 @@ comes_after (Put id rec) meta None second third limits fits allowed = absurd all
 comes_after (Put id rec) meta (Some page) second third limits fits allowed = after_itself meta limits
 comes_after (Del id point) meta None second third limits fits allowed = absurd allowed
 comes_after (Del id point) meta (Some page) second third limits fits allowed = after_itself meta limits
+comes_after (Change id rec) meta None second third limits fits allowed = absurd allowed
+comes_after (Change id rec) meta (Some page) second third limits fits allowed = after_itself meta limits
 comes_after (Extract source fresh path cuts free_after) meta None second third limits fits allowed = absurd allowed
 comes_after (Extract source fresh path cuts free_after) meta (Some page) second third limits fits allowed =
     let is = taken_is meta fresh free_after allowed.allocates in
@@ -151,6 +153,8 @@ made_numbered (Put id rec) meta None second third allowed reads = absurd allowed
 made_numbered (Put id rec) meta (Some page) second third allowed reads = one_numbered meta _ (All-head (IsPageOf meta) id [] reads)
 made_numbered (Del id point) meta None second third allowed reads = absurd allowed
 made_numbered (Del id point) meta (Some page) second third allowed reads = one_numbered meta _ (All-head (IsPageOf meta) id [] reads)
+made_numbered (Change id rec) meta None second third allowed reads = absurd allowed
+made_numbered (Change id rec) meta (Some page) second third allowed reads = one_numbered meta _ (All-head (IsPageOf meta) id [] reads)
 made_numbered (Extract source fresh path cuts free_after) meta None second third allowed reads = absurd allowed
 made_numbered (Extract source fresh path cuts free_after) meta (Some page) second third allowed reads =
     let is = taken_is meta fresh free_after allowed.allocates in
@@ -181,6 +185,8 @@ grown_high (Put id rec) meta None second third allowed reads = absurd allowed
 grown_high (Put id rec) meta (Some page) second third allowed reads = max-eq_left (All-head (IsPageOf meta) id [] reads).1
 grown_high (Del id point) meta None second third allowed reads = absurd allowed
 grown_high (Del id point) meta (Some page) second third allowed reads = max-eq_left (All-head (IsPageOf meta) id [] reads).1
+grown_high (Change id rec) meta None second third allowed reads = absurd allowed
+grown_high (Change id rec) meta (Some page) second third allowed reads = max-eq_left (All-head (IsPageOf meta) id [] reads).1
 grown_high (Extract source fresh path cuts free_after) meta None second third allowed reads = absurd allowed
 grown_high (Extract source fresh path cuts free_after) meta (Some page) second third allowed reads =
     subst (λ (o : Option (Tree × Area)). greatest meta.high (split_pages source fresh path cuts page o) ≡ max meta.high fresh) (sym allowed.fits.there)

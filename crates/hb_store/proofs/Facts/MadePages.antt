@@ -22,7 +22,7 @@ use Rattle.hb_frag.specs.Grammar.{FitsPage, FitsTree, HasSpelling}
 use Rattle.hb_frag.proofs.Facts.CarvedKinds.{some_weight}
 use Rattle.hb_layout.specs.declared.meta.Meta.{Meta}
 use Rattle.hb_ops.specs.declared.operations.Op.{Op}
-use Rattle.hb_ops.specs.declared.operations.Op.TheVariants.{Put, Del, Extract, Post, Merge, Grow}
+use Rattle.hb_ops.specs.declared.operations.Op.TheVariants.{Put, Del, Change, Extract, Post, Merge, Grow}
 use Rattle.hb_ops.specs.Cutting.{cut_through}
 use Rattle.hb_ops.specs.Extracting.{fresh_page, source_page, split_pages}
 use Rattle.hb_ops.specs.Allocating.{new_root}
@@ -30,7 +30,8 @@ use Rattle.hb_ops.specs.Merging.{kept_page, parent_page, taken_over}
 use Rattle.hb_ops.specs.Operations.{IsAllowedOn, change_of}
 use Rattle.hb_ops.specs.LawsOfContents.{ChangesMakeWell, IsWellIn}
 use Rattle.hb_ops.specs.Posting.{posted, post_page}
-use Rattle.hb_ops.specs.Recording.{del_page, joined, put_page, without}
+use Rattle.hb_space.specs.Edits.{changing}
+use Rattle.hb_ops.specs.Recording.{edited_page, del_page, joined, put_page, without}
 use Rattle.hb_ops.specs.Sound.{FitsFile}
 use Rattle.hb_log_codec.specs.Groups.{FitsOp}
 use Rattle.hb_store.specs.States.{IsGoodPage}
@@ -96,6 +97,10 @@ module _ (stand : PartsStand) where
     parts_made (Del id point) meta (Some page) second third limits fits allowed readable =
         let old = read_parts meta page (readable.0 page refl) allowed.made in
         All-alone (Parted meta.k) (id, Live (del_page point page)) (old.0, fit_changed meta.k point (without point) (without_fit meta.k point) page.frag page.area old.1)
+    parts_made (Change id rec) meta None second third limits fits allowed readable = absurd allowed
+    parts_made (Change id rec) meta (Some page) second third limits fits allowed readable =
+        let old = read_parts meta page (readable.0 page refl) allowed.made in
+        All-alone (Parted meta.k) (id, Live (edited_page (changing rec) page)) (old.0, fit_changed meta.k rec.key (joined rec) (joined_fit meta.k rec fits.1) page.frag page.area old.1)
     parts_made (Extract source fresh path cuts free_after) meta None second third limits fits allowed readable = absurd allowed
     parts_made (Extract source fresh path cuts free_after) meta (Some page) second third limits fits allowed readable =
         let old = read_parts meta page (readable.0 page refl) allowed.made in
@@ -149,6 +154,7 @@ module _ (stand : PartsStand) where
   pub fitting_parts : HaveFittingParts
   fitting_parts (Put id rec) meta first second third limits allowed readable = tt
   fitting_parts (Del id point) meta first second third limits allowed readable = tt
+  fitting_parts (Change id rec) meta first second third limits allowed readable = tt
   fitting_parts (Extract source fresh path cuts free_after) meta None second third limits allowed readable = absurd allowed
   fitting_parts (Extract source fresh path cuts free_after) meta (Some page) second third limits allowed readable =
       let part = allowed.part in

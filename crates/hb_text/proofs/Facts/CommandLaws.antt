@@ -2,14 +2,15 @@
 use Rattle.std.specs.Prelude.{◌≡◌, ℕ, suc, ◌-◌, ◌*◌, ◌==◌, List, [], ◌∷◌, length, take, drop, Option, Some, None, Ok, Err, refl}
 use Rattle.std.proofs.Common.{inl, inr, sym, ap, ◌∙◌, arith}
 use Rattle.hb_space.specs.Boxes.{Area}
+use Rattle.hb_space.specs.declared.records.Record.{Record}
 use Rattle.hb_set.specs.declared.commands.Command.{Command}
-use Rattle.hb_set.specs.declared.commands.Command.TheVariants.{Insert, Delete, Lookup, Search}
+use Rattle.hb_set.specs.declared.commands.Command.TheVariants.{Insert, Delete, Change, Lookup, Search}
 use Rattle.hb_set.specs.Machine.{attributes}
 use Rattle.hb_text.specs.Numbers.{number_read}
 use Rattle.hb_text.specs.declared.rules.TextRule.TheVariants.{BadCount, EmptyBox}
 use Rattle.hb_text.specs.declared.verbs.Verb.{Verb}
 use Rattle.hb_text.specs.declared.verbs.Verb.TheVariants as verbs
-use Rattle.hb_text.specs.Operands.{or_fault, values_read, lows, highs, pairs_are_ordered, box_read, box_words_read, body_read, operand_count, operands_read, verb_of, verb_read, command_read}
+use Rattle.hb_text.specs.Operands.{or_fault, values_read, lows, highs, pairs_are_ordered, box_read, box_words_read, body_read, record_read, operand_count, operands_read, verb_of, verb_read, command_read}
 use Rattle.std.proofs.lemmas.Bool.Decides.{nat_tests}
 use Rattle.std.proofs.lemmas.List.{length-take}
 use Rattle.hb_lemmas.proofs.Booleans.{chosen}
@@ -33,14 +34,26 @@ half_of (x ∷ y ∷ rest) k e =
     let before : length (lows rest) ≡ k - 1 = half_of rest (k - 1) (omega arith) in
     omega arith
 
+-- a record has as many attributes as words were taken for them
+record_attributes : (k : ℕ) (words : List (List ℕ)) (rec : Record) → length words ≡ k + 1 → record_read k words ≡ Ok rec → length rec.key ≡ k
+unfolding record_read
+record_attributes k words rec count e =
+    let key = bound (values_read (take k words)) _ rec e in
+    let body = bound (body_read (drop k words)) _ rec key.2 in
+    let same : ◌≡◌ {A = Record} (record { key = key.0; body = body.0 }) rec = cc (body.2) in
+    rw (← same) (values_length (take k words) key.0 key.1 ∙ omega (arith, length-take k words))
+
 -- a command has as many attributes as the text
 operands_attributes : (verb : Verb) (k : ℕ) (words : List (List ℕ)) (command : Command) → length words ≡ operand_count verb k → operands_read verb k words ≡ Ok command → attributes command ≡ k
 unfolding operands_read
 operands_attributes verbs.Insert k words command count e =
-    let key = bound (values_read (take k words)) _ command e in
-    let body = bound (body_read (drop k words)) _ command key.2 in
-    let same : Insert (record { key = key.0; body = body.0 }) ≡ command = cc (body.2) in
-    rw (← same) (values_length (take k words) key.0 key.1 ∙ omega (arith, length-take k words))
+    let added = bound (record_read k words) _ command e in
+    let same : Insert added.0 ≡ command = cc (added.2) in
+    rw (← same) (record_attributes k words added.0 count added.1)
+operands_attributes verbs.Change k words command count e =
+    let changed = bound (record_read k words) _ command e in
+    let same : Change changed.0 ≡ command = cc (changed.2) in
+    rw (← same) (record_attributes k words changed.0 count changed.1)
 operands_attributes verbs.Delete k words command count e =
     let key = bound (values_read words) _ command e in
     let same : Delete key.0 ≡ command = cc (key.2) in

@@ -1,5 +1,5 @@
 use Rattle.std.proofs.Common.{subst}
-use Rattle.hb_set.specs.declared.commands.Command.TheVariants.{Insert, Delete, Lookup}
+use Rattle.hb_set.specs.declared.commands.Command.TheVariants.{Insert, Delete, Change, Lookup}
 use Rattle.hb_point.proofs.DescendedRows.{does_as}
 use Rattle.hb_point.specs.Doing.{IsAtCommand}
 use Rattle.hb_point.proofs.descending.does_there.Goals as goal
@@ -21,3 +21,9 @@ returns-in-Delete c = does_as c.args.meta.now c.args.line (Delete c.in-Delete.po
 
 pub returns-in-Lookup : goal.returns-in-Lookup
 returns-in-Lookup c = does_as c.args.meta.now c.args.line (Lookup c.in-Lookup.point) c.args.id c.args.view.now c.lookup.result c.in-Lookup.is (c.lookup.ensures c.args.line.session c.args.id)
+
+pub change-requires : goal.change-requires
+change-requires c = subst (IsAtCommand c.args.meta.now c.args.view.now) c.in-Change.is c.requires
+
+pub returns-in-Change : goal.returns-in-Change
+returns-in-Change c = does_as c.args.meta.now c.args.line (Change c.in-Change.rec) c.args.id c.args.view.now c.change.result c.in-Change.is (c.change.ensures c.args.line.session)

@@ -3,7 +3,7 @@ use Rattle.hb_sound.proofs.laws.operations_keep_a_file_sound.Goals as goal
 
 pub returns-clause-sound : goal.returns-clause-sound
 returns-clause-sound c =
-    operations_keep_sound c.puts_and_deletes_keep_a_file_sound.ensures.put c.puts_and_deletes_keep_a_file_sound.ensures.del
+    operations_keep_sound c.edits_keep_a_file_sound.ensures
     c.a_split_keeps_a_file_sound.ensures.sound c.a_posting_keeps_a_file_sound.ensures.sound c.a_merge_keeps_a_file_sound.ensures.sound c.growing_keeps_a_file_sound.ensures.sound
 
 pub returns-clause-layout : goal.returns-clause-layout
@@ -12,5 +12,5 @@ returns-clause-layout c = operations_keep_layout
 pub returns-clause-contents : goal.returns-clause-contents
 returns-clause-contents c =
     operations_keep_contents c.trees_and_space.ensures.trees c.each_page_has_a_box.ensures c.held_is_a_point.ensures
-    c.puts_and_deletes_change_one_record.ensures.put c.puts_and_deletes_change_one_record.ensures.del
+    c.edits_change_the_contents.ensures
     c.a_split_keeps_a_file_sound.ensures.contents c.a_posting_keeps_a_file_sound.ensures.contents c.a_merge_keeps_a_file_sound.ensures.contents c.growing_keeps_a_file_sound.ensures.contents

@@ -2,7 +2,7 @@ use Rattle.std.proofs.Common.{◌≡◌, ◌+◌, ◌-◌, ◌++◌, length, tak
 use Rattle.hb_lemmas.specs.Numbers.{big_endian}
 use Rattle.hb_space.specs.declared.form.TheConstants.{PAGE}
 use Rattle.hb_view.specs.Spelled.{page_spelled}
-use Rattle.hb_view.specs.Spots.{record_with}
+use Rattle.hb_space.specs.Edits.{record_with}
 use Rattle.hb_view.proofs.Replaced.{splice_spells, stands_inside}
 use Rattle.hb_view.proofs.splicing.splice.Goals as goal
 

@@ -1,6 +1,6 @@
 use Rattle.std.proofs.Common.{◌+◌, ◌*◌, length, option_copied, flat_map, ap, sym, ◌∙◌}
 use Rattle.hb_frag.specs.Grammar.{record_bytes}
-use Rattle.hb_view.specs.Spots.{record_with}
+use Rattle.hb_space.specs.Edits.{record_with}
 use Rattle.hb_view.proofs.Replaced.{record_wide}
 use Rattle.hb_view.proofs.splicing.width_with.Goals as goal
 

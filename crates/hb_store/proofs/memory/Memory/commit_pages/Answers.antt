@@ -3,7 +3,7 @@ use Rattle.std.specs.Prelude.{◌||◌, map}
 use Rattle.std.specs.FinSet as set
 use Rattle.hb_frag.specs.declared.pages.Page.{Page}
 use Rattle.hb_frag.specs.Grammar.{HasSpelling}
-use Rattle.hb_ops.specs.Operations.{Change, reads_of}
+use Rattle.hb_ops.specs.Operations.{FileChange, reads_of}
 use Rattle.hb_pool.specs.Frames.{Use, use_of}
 use Rattle.hb_wal.specs.Log.{LogState}
 use Rattle.hb_store.specs.Calls.{Commits, change_here, numbers_changed, use_changed}
@@ -25,7 +25,7 @@ use Rattle.hb_store.proofs.Room.{have_room}
 use Rattle.hb_store.proofs.memory.Memory.commit_pages.Goals as goal
 
 -- the change, as the contracts see it
-abbrev change_made : (c : goal.After-array_drop-changed-2) → Change
+abbrev change_made : (c : goal.After-array_drop-changed-2) → FileChange
 change_made c = record { meta = c.in_ok-changed.changed.meta; pages = c.in_ok-changed.changed.pages.items }
 
 well_made : (c : goal.After-array_drop-changed-2) → MakesWell c.args.op.now c.args.self.now.state
@@ -33,7 +33,7 @@ well_made c =
     made_well c.what_is_made_can_be_written.ensures.pages c.args.self.now.state (subst (λ (h : StoreHeld). IsMemory h.state) c.self.view_is c.self.invariant.memory) c.args.op.now c.in_ok-group.ensures.fits c.requires.can.allowed c.requires.can.boxes
 
 pages_are : (c : goal.After-deref-3) → c.deref-3.result.now ≡ (change_here c.args.self.now.state c.args.op.now).pages
-pages_are c = c.deref-3.ensures.0 ∙ ap (λ (x : Change). x.pages) c.in_ok-changed.ensures.effect
+pages_are c = c.deref-3.ensures.0 ∙ ap (λ (x : FileChange). x.pages) c.in_ok-changed.ensures.effect
 
 pub add_all-requires : goal.add_all-requires
 add_all-requires c =
@@ -97,7 +97,7 @@ returns-clause-done c =
       commits = made c;
       group = ap (λ (l : LogState). l.groups) (log_here c) ∙ ap (λ (b : List ℕ). c.args.self.now.state.log.groups ++ record { bytes = b; mark = c.args.mark } ∷ []) (group_is c);
       uses =
-          (puts_here c).uses ∙ ap (λ (l : Change). use_changed (numbers_of l.pages) (map use_of m.pool)) c.in_ok-changed.ensures.effect
+          (puts_here c).uses ∙ ap (λ (l : FileChange). use_changed (numbers_of l.pages) (map use_of m.pool)) c.in_ok-changed.ensures.effect
           ∙ ap (λ (h : StoreHeld). use_changed (numbers_changed c.args.self.now.state c.args.op.now) h.uses) c.self.view_is;
       stays = stays_then m.turn m.meta m.log m.in_log m.stopped m.pool c.in_ok-changed.changed.meta c.append.new.self c.put_all.new.in_log c.put_all.new.pool c.args.self.now c.self.view_is c.args.op.now c.args.mark (change_made c) c.deref.result.now
           c.in_ok-changed.ensures.effect refl (puts_here c) c.self.invariant.pool (numbers_here c) (log_here c);
