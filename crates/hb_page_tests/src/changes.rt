@@ -177,6 +177,15 @@ change: 6 | 0 ( 10=a |0:40| >2 ) | del 3 40 => Unfit
 change: 6 | 0 - | del 3 0 => Unfit
 change: 2 | 0 10=a,20=b,30=c | del 3 10 => Unfit
 change: 6 | 1 ( ^2 |0:40| ^1 ) | del 3 7 => Unfit
+// what is there gets another body, in a full page too
+change: 3 | 0 10=a,20=b,30=c | change 3 20=dd => page 3 0 0.. : 10=a,20=dd,30=c
+change: 6 | 0 10=a,20=b,30=c | change 3 30= => page 3 0 0.. : 10=a,20=b,30=
+change: 6 | 0 ( 10=a |0:40| >2 ) | change 3 10=a => page 3 0 0.. : ( 10=a |0:40| >2 )
+change: 6 | 0 10=a,20=b,30=c | change 3 25=d => Unfit
+change: 6 | 0 ( 10=a |0:40| >2 ) | change 3 40=d => Unfit
+change: 6 | 0 - | change 3 0=a => Unfit
+change: 2 | 0 10=a,20=b,30=c | change 3 10=d => Unfit
+change: 6 | 1 ( ^2 |0:40| ^1 ) | change 3 7=a => Unfit
 // first broken rules
 rule: 0 - => 0
 rule: 0 ( 10=a,20=b |0:40| ( >2 |0:60| 70=c ) ) => 0
@@ -326,6 +335,7 @@ merged: 2 0.. 0.. 0.. 0.. : ( ( ( ( ^2 |3:40| ^1 ) |2:40| ^1 ) |1:40| >9 ) |0:40
 // pages that are read
 reads: put 3 5=a => 1 3
 reads: del 4 5 => 1 4
+reads: change 5 5=a => 1 5
 reads: split 3 . 0R5 4 0 => 1 3
 reads: post 3 . 2 0..9 => 1 3
 reads: merge 3 1 2 => 3 3 1 2

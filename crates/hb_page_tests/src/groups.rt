@@ -69,6 +69,7 @@ groups: split => 1; split 1 R 0L40 2 9
 groups: post => 1; post 3 L 2 0..39
 groups: merge => 1; merge 3 1 2
 groups: grow => 1; grow 3 7
+groups: 0 7 0 0 0 1 7*0 5 1 97 => 1; change 1 5=a
 // two groups in a row
 groups: put del => 2; put 1 5=a; del 7 5
 // a byte behind a group, and a group cut short behind another
@@ -85,7 +86,7 @@ groups: 0 4 0 0 0 3 0 0 0 0 2 7*0 5 7*0 5 => 1; post 3 . 2 5..5
 // one byte changed
 // tags that no operation has
 groups: put 1:0 => none at 0
-groups: put 1:7 => none at 0
+groups: put 1:8 => none at 0
 // a merge's tag: its three numbers leave the last two bytes, which are no group
 groups: put 1:5 => none at 14
 groups: put @14 1:5 => 1; merge 1 0 5

@@ -1,8 +1,8 @@
 //! Operations over one attribute from text, and as text.
 //!
-//! An operation is `put PAGE VALUE=BODY`, `del PAGE VALUE`, `split SOURCE PATH CUTS FRESH FREE`,
-//! `post PARENT PATH INNER BOX`, `merge PARENT KEEP GONE` or `grow FRESH FREE`, where FREE is the
-//! free head afterwards. Cuts are `ATTRIBUTE SIDE VALUE` without blanks, as `0L30`, with `,` between
+//! An operation is `put PAGE VALUE=BODY`, `change PAGE VALUE=BODY`, `del PAGE VALUE`,
+//! `split SOURCE PATH CUTS FRESH FREE`, `post PARENT PATH INNER BOX`, `merge PARENT KEEP GONE` or
+//! `grow FRESH FREE`, where FREE is the free head afterwards. Cuts are `ATTRIBUTE SIDE VALUE` without blanks, as `0L30`, with `,` between
 //! them, or `-` for none.
 
 ghost use Rattle.std.specs.Prelude.{◌≡◌, length};
@@ -14,16 +14,29 @@ use crate::replies::Reply;
 use crate::spelled::{area_of, path_of, record_of};
 use hb_frag::{Path, Side};
 use hb_ops::{Cuts, LeafCut, Op};
-use hb_space::{Area, Point};
+use hb_space::{Area, Point, Record};
 use smallvec::SmallVec;
+
+// A page, and a record.
+fn placed_of(reply: &mut Reply, text: &str) -> (u32, Record)
+    ensures { length result.1.key ≡ 1 }
+{
+    let (page, rec) = reply.parts(text, " ");
+    (reply.read_u32(page), record_of(reply, rec))
+}
 
 fn put_of(reply: &mut Reply, text: &str) -> Op
     ensures { OpHas 1 result }
 {
-    let (page, rec) = reply.parts(text, " ");
-    let page = reply.read_u32(page);
-    let rec = record_of(reply, rec);
+    let (page, rec) = placed_of(reply, text);
     Op::Put { page, rec }
+}
+
+fn change_of(reply: &mut Reply, text: &str) -> Op
+    ensures { OpHas 1 result }
+{
+    let (page, rec) = placed_of(reply, text);
+    Op::Change { page, rec }
 }
 
 fn del_of(reply: &mut Reply, text: &str) -> Op
@@ -155,6 +168,7 @@ pub(crate) fn op_of(reply: &mut Reply, text: &str) -> Op
     let (verb, rest) = reply.parts(text, " ");
     match verb {
         "put" => put_of(reply, rest),
+        "change" => change_of(reply, rest),
         "del" => del_of(reply, rest),
         "split" => split_of(reply, rest),
         "post" => post_of(reply, rest),
@@ -214,13 +228,16 @@ fn say_pages(reply: &mut Reply, word: &str, pages: &[u32]) {
     }
 }
 
+fn say_placed(reply: &mut Reply, word: &str, page: u32, rec: &Record) {
+    say_pages(reply, word, &[page]);
+    reply.say(" ");
+    say_record(reply, rec);
+}
+
 pub(crate) fn say_op(reply: &mut Reply, op: &Op) {
     match op {
-        Op::Put { page, rec } => {
-            say_pages(reply, "put", &[*page]);
-            reply.say(" ");
-            say_record(reply, rec);
-        }
+        Op::Put { page, rec } => say_placed(reply, "put", *page, rec),
+        Op::Change { page, rec } => say_placed(reply, "change", *page, rec),
         Op::Del { page, point } => {
             say_pages(reply, "del", &[*page]);
             say_values(reply, point);

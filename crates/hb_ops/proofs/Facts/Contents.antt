@@ -14,9 +14,7 @@ use Rattle.hb_frag.specs.declared.pages.Page.{Page}
 use Rattle.hb_frag.specs.declared.pages.Page.TheVariants.{Live}
 use Rattle.hb_frag.specs.Leaves.{WellCut, leaf_at, leaves, leaves_of, records_of}
 use Rattle.hb_frag.specs.Rules.{AreInOrder, IsInOrder}
-use Rattle.hb_layout.specs.declared.meta.Meta.{Meta}
-use Rattle.hb_ops.specs.declared.operations.Op.{Op}
-use Rattle.hb_space.specs.Edits.{Edit, with_body_at}
+use Rattle.hb_space.specs.Edits.{with_body_at}
 use Rattle.std.specs.Option.{is_some}
 use Rattle.hb_ops.proofs.Facts.EditOps.{edited_file, is_edit, reads_its_page}
 use Rattle.hb_ops.specs.Files.{FileState, file_records, live_page, page_of, page_records}

@@ -1,5 +1,5 @@
 -- A page whose leaf at a point has records: its weight and its tree once they are changed.
-use Rattle.std.proofs.Common.{◌≡◌, ◌≢◌, ℕ, ◌+◌, ◌<◌, ◌≤◌, ◌==◌, max, Bool, true, false, cond, List, [], ◌∷◌, ◌++◌, length, get_or, map, sum, take, drop, All, AllPairs, Any, Option, Some, None, not, sym, ap, subst, ◌∙◌, arith, inl, inr, eq-eqb, ne_eqb, nat_lt}
+use Rattle.std.proofs.Common.{◌≡◌, ℕ, ◌+◌, ◌<◌, ◌≤◌, ◌==◌, max, Bool, true, false, cond, List, [], ◌∷◌, ◌++◌, length, get_or, map, sum, take, drop, All, AllPairs, Any, Option, Some, None, not, sym, ap, subst, ◌∙◌, arith, inl, inr, eq-eqb, ne_eqb, nat_lt}
 use Rattle.std.specs.Option.{is_some}
 use Rattle.std.proofs.lemmas.List.{get_or_default, map-append, length-append, length-take, length-drop}
 use Rattle.hb_space.specs.Edits.{Edit, record_with}
@@ -20,8 +20,7 @@ use Rattle.hb_layout.specs.declared.meta.Meta.{Meta}
 use Rattle.hb_ops.specs.Recording.{EditsAddNoWeight, FitsEdit, HasPoint, HasSpot, IsOpenAt, StandsAt, edited_page, on_records, page_with, with_body}
 use Rattle.hb_ops.proofs.Facts.Places.{edited_at, gap_lacks, place_has}
 use Rattle.hb_ops.proofs.Facts.Tips.{first_append, first_held, parted, tip_at, unchanged}
-use Rattle.hb_lemmas.specs.Places.{IsGapFor, IsPlaceOf}
-use Rattle.hb_space.specs.Points.{point_cmp}
+use Rattle.hb_lemmas.specs.Places.{IsPlaceOf}
 
 -- what is true of each leaf is true of the first one at a point
 pub first_has : (P : Placed → Type 0) (p : List ℕ) (xs : List Placed) (placed : Placed) → first_at p xs ≡ Some placed → All P xs → P placed

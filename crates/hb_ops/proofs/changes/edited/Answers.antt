@@ -1,4 +1,4 @@
-use Rattle.std.proofs.Common.{rules, ◌≡◌, Ok, refl, ap, sym, subst, ◌∙◌}
+use Rattle.std.proofs.Common.{rules}
 use Rattle.hb_ops.proofs.changes.edited.Goals as goal
 
 -- where the page is given its clauses are those of `one_made` over `edit`, and else nothing fits: `search rules` is a guess for both

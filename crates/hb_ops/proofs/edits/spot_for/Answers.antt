@@ -1,8 +1,7 @@
-use Rattle.std.proofs.Common.{◌≡◌, ℕ, ◌+◌, ◌<◌, ◌≤◌, ◌==◌, inl, inr, cond, List, length, Option, Some, None, refl, Bor, Bool, true, false, not, sym, subst, ◌∙◌, arith}
+use Rattle.std.proofs.Common.{◌≡◌, ℕ, ◌+◌, ◌<◌, ◌≤◌, ◌==◌, inl, inr, cond, List, length, Option, Some, None, refl, Bor, Bool, true, false, sym, subst, ◌∙◌}
 use Rattle.std.proofs.lemmas.Bool.{cases_lt, false≢true}
 use Rattle.std.specs.Option.{is_some, option_map}
 use Rattle.hb_space.specs.declared.records.Record.{Record}
-use Rattle.hb_space.specs.Edits.{Edit}
 use Rattle.hb_ops.specs.Given.{edit_seen}
 use Rattle.hb_ops.specs.Recording.{StandsAt}
 use Rattle.hb_ops.proofs.Facts.Opened.{no_room, open_by_edit, rising_at, spot_found, stands_otherwise, weight_more, weighs_little}

@@ -1,7 +1,6 @@
-use Rattle.std.proofs.Common.{◌≡◌, ◌+◌, ◌++◌, ℕ, List, IfOk, take, drop, length, sym, ap, subst, ◌∙◌, arith}
+use Rattle.std.proofs.Common.{◌≡◌, ◌++◌, ℕ, IfOk, take, drop, length, sym, ap, subst, ◌∙◌, arith}
 use Rattle.hb_frag.specs.declared.pages.LivePage.{LivePage}
-use Rattle.hb_space.specs.declared.records.Record.{Record}
-use Rattle.hb_space.specs.Edits.{Edit, record_with}
+use Rattle.hb_space.specs.Edits.{record_with}
 use Rattle.hb_ops.specs.Given.{edit_seen}
 use Rattle.hb_ops.specs.Recording.{with_body}
 use Rattle.hb_ops.proofs.Facts.Opened.{page_made, rising_at, stands_inside}
