@@ -25,7 +25,7 @@ use std::alloc::Global;
 ///
 /// An activity is spelled by its name. For a session the command, its point, and its pages follow;
 /// for a worker the job's level, its point, and its pages. Page 0 stands for none.
-const ROWS: [(&str, u8, u8, &str); 38] = [
+const ROWS: [(&str, u8, u8, &str); 40] = [
     ("SessionIdle", 0, 3, ";"),
     ("SessionWalk insert 50", 0, 3, "; 10.2S; 50..50 alone"),
     ("SessionWalk insert 50 10", 2, 3, "10S; 20.1S; 50..50 alone"),
@@ -43,6 +43,12 @@ const ROWS: [(&str, u8, u8, &str); 38] = [
     ),
     (
         "SessionWalk delete 99 20",
+        1,
+        3,
+        "20S; 30.0X!; 99..99 alone",
+    ),
+    (
+        "SessionWalk change 99 20",
         1,
         3,
         "20S; 30.0X!; 99..99 alone",
@@ -78,6 +84,7 @@ const ROWS: [(&str, u8, u8, &str); 38] = [
         "30S; 31.0S; 100..100 shared",
     ),
     ("SessionWalk lookup 99 30", 0, 3, "30S;; 99..99 shared"),
+    ("SessionWalk change 99 30", 0, 3, "30X;; 99..99 alone"),
     (
         "SessionWalk search 40 20",
         1,
@@ -163,12 +170,17 @@ fn area(least: u32, greatest: u32) -> Option<Area> {
     Area::between(point(least), point(greatest))
 }
 
+fn record(value: u32) -> Record {
+    Record {
+        key: point(value),
+        body: Body::new(b"a"),
+    }
+}
+
 fn command_of(verb: &str, value: u32) -> Option<Command> {
     match verb {
-        "insert" => Some(Command::Insert(Record {
-            key: point(value),
-            body: Body::new(b"a"),
-        })),
+        "insert" => Some(Command::Insert(record(value))),
+        "change" => Some(Command::Change(record(value))),
         "delete" => Some(Command::Delete(point(value))),
         "lookup" => Some(Command::Lookup(point(value))),
         "search" | "searched" => Some(Command::Search(area(7, 900)?)),

@@ -1,5 +1,5 @@
 //! What steps of sessions and of the poster come to, with ample memory: a full page is split, a posting is made, a parent
-//! without room is split, and a lookup and an insert take effect.
+//! without room is split, and a lookup, an insert and a change take effect.
 
 ghost use Rattle.std.specs.Prelude.{◌≡◌, ◌<◌, ◌≤◌, IfSome, IsTrue};
 ghost use Rattle.hb_activity.specs.Deciding.{FitsFree};
@@ -30,9 +30,9 @@ use std::alloc::Global;
 /// and what becomes of the line.
 ///
 /// `split` is the step of a session that holds page 5, which is full, with an insert. `post` is the step of the poster that looks
-/// again at page 1, whose lower part page 2 has, from page 3, which is the page named. `insert` and `lookup` are steps of a walk
-/// at page 5.
-const ROWS: [(&str, &str, u32, u32, &str); 7] = [
+/// again at page 1, whose lower part page 2 has, from page 3, which is the page named. `insert`, `change` and `lookup` are steps
+/// of a walk at page 5.
+const ROWS: [(&str, &str, u32, u32, &str); 9] = [
     ("split", "six", 40, 35, "extract 5 9 . 0L40 4; P1.0"),
     ("split", "six", 64, 35, "; full"),
     ("post", "one child", 40, 10, "post 3 . 2 0..39; P1.10"),
@@ -47,6 +47,8 @@ const ROWS: [(&str, &str, u32, u32, &str); 7] = [
     ("post", "32 children", 64, 10, ";"),
     ("lookup", "six", 40, 20, "; found"),
     ("insert", "five", 40, 35, "put 5 35; done"),
+    ("change", "six", 40, 20, "change 5 20; done"),
+    ("change", "six", 40, 35, "; absent"),
 ];
 
 // A file in which a page of records may weigh 6, and another one 32.
@@ -234,7 +236,7 @@ fn walks_inside(view: &PageView<'_>, command: &Command) -> bool
     ensures { IsTrue result → IsLiveAnd view.now (λ page. WalksInside page command.now) }
 {
     match command {
-        Command::Insert(rec) => has_point(view, &rec.key),
+        Command::Insert(rec) | Command::Change(rec) => has_point(view, &rec.key),
         Command::Delete(point) | Command::Lookup(point) => has_point(view, point),
         Command::Search(_) => false,
     }
@@ -299,6 +301,7 @@ fn next_of(alloc: Global, step: &str, page: &LivePage, value: u32, meta: &Meta) 
         "split" => split(alloc, Latched { id: 5, page, meta }, rec),
         "lookup" => walk(alloc, page, Command::Lookup(rec.key), meta),
         "delete" => walk(alloc, page, Command::Delete(rec.key), meta),
+        "change" => walk(alloc, page, Command::Change(rec), meta),
         _ => walk(alloc, page, Command::Insert(rec), meta),
     }
 }
@@ -362,6 +365,10 @@ pub(crate) fn say_op(text: &mut Text, op: &Op) {
             text.marked(" ", area.lo().values()[0]);
             text.marked("..", area.hi().values()[0]);
         }
+        Op::Change { page, rec } => {
+            say_numbers(text, "change", &[*page]);
+            text.marked(" ", rec.key.values()[0]);
+        }
         Op::Del { page, point } => {
             say_numbers(text, "del", &[*page]);
             text.marked(" ", point.values()[0]);
@@ -380,6 +387,7 @@ fn fate_of(next: &Next) -> &'static str {
         (Fate::TakesEffect, Activity::SessionAwait { reply, .. }) => match reply {
             Reply::Found(_) => " found",
             Reply::Done => " done",
+            Reply::Absent => " absent",
             _ => " other",
         },
         (Fate::GoesOn, Activity::SessionPut { .. } | Activity::PosterIdle) => "",

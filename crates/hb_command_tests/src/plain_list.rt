@@ -29,12 +29,12 @@ fn drawn(seed: &mut u64) -> u64 {
 fn reply(text: &mut Text, plain: &mut Plain, verb: &str, a: u64, b: u64, body: char) {
     let place = ((a % 4) * 4 + b % 4) as usize;
     match (verb, plain[place]) {
-        ("insert", None) => {
+        ("insert", None) | ("change", Some(_)) => {
             plain[place] = Some(body);
             text.say("done");
         }
         ("insert", Some(_)) => text.say("duplicate"),
-        ("delete", None) => text.say("absent"),
+        ("delete", None) | ("change", None) => text.say("absent"),
         ("delete", Some(_)) => {
             plain[place] = None;
             text.say("done");
@@ -101,9 +101,9 @@ impl Both {
         self.are_told(&line, &text)
     }
 
-    /// Whether they do to two inserts, a delete, a lookup and a search that are drawn.
-    fn agree_on_five(&mut self, seed: &mut u64, body: char) -> bool {
-        for &verb in &["insert", "delete", "lookup", "insert"] {
+    /// Whether they do to two inserts, a delete, a lookup, a change and a search that are drawn.
+    fn agree_on_six(&mut self, seed: &mut u64, body: char) -> bool {
+        for &verb in &["insert", "delete", "lookup", "insert", "change"] {
             let (a, b) = (drawn(seed), drawn(seed));
             if !self.agree(verb, a, b, body) {
                 return false;
@@ -115,7 +115,7 @@ impl Both {
     }
 }
 
-/// Whether they do to 260 commands. `None` where memory was refused.
+/// Whether they do to 312 commands. `None` where memory was refused.
 fn agree_on_all(alloc: Global) -> Option<bool> {
     let mut both = Both {
         alloc,
@@ -124,7 +124,7 @@ fn agree_on_all(alloc: Global) -> Option<bool> {
     };
     let mut seed = 7;
     for body in "abcdefghijklmnopqrstuvwxyzABCDEFGHIJKLMNOPQRSTUVWXYZ".chars() {
-        if !both.agree_on_five(&mut seed, body) {
+        if !both.agree_on_six(&mut seed, body) {
             return Some(false);
         }
     }

@@ -48,13 +48,14 @@ fn answer_to(alloc: Global, attributes: u8, step_lines: bool, text: &[u8]) -> Op
 }
 
 /// The attributes, whether step lines may stand in the text, the text, and what is read of it.
-const TEXTS: [(u8, bool, &str, Outcome); 60] = [
+const TEXTS: [(u8, bool, &str, Outcome); 64] = [
     (1, false, "", Ok((0, 0))),
     (1, false, "\n", Ok((0, 0))),
     (1, false, "1 lookup 1", Ok((1, 0))),
     (1, false, "1 lookup 1\n", Ok((1, 0))),
     (1, false, "\n\n1 lookup 1\n\n2 delete 1\n", Ok((2, 0))),
     (1, false, "1 insert 1 =", Ok((1, 0))),
+    (1, false, "1 change 1 =a", Ok((1, 0))),
     (
         1,
         false,
@@ -79,10 +80,11 @@ const TEXTS: [(u8, bool, &str, Outcome); 60] = [
     (1, false, "01 lookup 1", Err((1, TextRule::BadSession))),
     (1, false, "x lookup 1", Err((1, TextRule::BadSession))),
     (1, false, "1", Err((1, TextRule::BadVerb))),
-    (1, false, "1 change 1 =a", Err((1, TextRule::BadVerb))),
+    (1, false, "1 find 1", Err((1, TextRule::BadVerb))),
     (1, false, "1 lookup", Err((1, TextRule::BadCount))),
     (1, false, "1 lookup 1 2", Err((1, TextRule::BadCount))),
     (1, false, "1 insert 1", Err((1, TextRule::BadCount))),
+    (1, false, "1 change 1", Err((1, TextRule::BadCount))),
     (1, false, "1 lookup 01", Err((1, TextRule::BadNumber))),
     (1, false, "1 lookup -1", Err((1, TextRule::BadNumber))),
     (1, false, "1 lookup 1a", Err((1, TextRule::BadNumber))),
@@ -95,6 +97,13 @@ const TEXTS: [(u8, bool, &str, Outcome); 60] = [
     (1, false, "1 search 2 2", Ok((1, 0))),
     (1, false, "1 search 2 1", Err((1, TextRule::EmptyBox))),
     (1, false, "1 insert 1 x", Err((1, TextRule::BadBody))),
+    (1, false, "1 change 1 a", Err((1, TextRule::BadBody))),
+    (
+        1,
+        false,
+        "1 change 1 =abcdefghijklmnopqrstuvwxyzabcdefg",
+        Err((1, TextRule::BadBody)),
+    ),
     (
         1,
         false,
@@ -220,7 +229,7 @@ fn steps_are_read(rt: HostRuntime) {
 
 /// A text of two attributes.
 const SCRIPT: &[u8] =
-    b"1 insert 18446744073709551615 0 =x=\n\n16 delete 1 2\n2 search 1 2 3 3\n9 lookup 3 4";
+    b"1 insert 18446744073709551615 0 =x=\n\n16 delete 1 2\n2 search 1 2 3 3\n9 lookup 3 4\n3 change 5 6 =y";
 
 /// Its lines: the number, the session, and the command's word, its values, the upper values of a search, and its body.
 type LineTold = (
@@ -232,11 +241,12 @@ type LineTold = (
     &'static [u8],
 );
 
-const LINES: [LineTold; 4] = [
+const LINES: [LineTold; 5] = [
     (1, 1, "insert", &[u64::MAX, 0], &[], b"x="),
     (3, 16, "delete", &[1, 2], &[], b""),
     (4, 2, "search", &[1, 3], &[2, 3], b""),
     (5, 9, "lookup", &[3, 4], &[], b""),
+    (6, 3, "change", &[5, 6], &[], b"y"),
 ];
 
 /// The word of a command, its values, the upper values of a search, and its body.
@@ -244,6 +254,7 @@ fn told(command: &Command) -> (&str, &[u64], &[u64], &[u8]) {
     match command {
         Command::Insert(added) => ("insert", added.key.values(), &[], added.body.bytes()),
         Command::Delete(point) => ("delete", point.values(), &[], b""),
+        Command::Change(changed) => ("change", changed.key.values(), &[], changed.body.bytes()),
         Command::Lookup(point) => ("lookup", point.values(), &[], b""),
         Command::Search(area) => ("search", area.lo().values(), area.hi().values(), b""),
     }

@@ -43,23 +43,26 @@ impl Trial {
     }
 }
 
-/// The command `insert POINT BODY`, `delete POINT`, `lookup POINT` or `search POINT..POINT`, where a point is written as its
-/// values with commas between them.
+/// The command `insert POINT BODY`, `change POINT BODY`, `delete POINT`, `lookup POINT` or `search POINT..POINT`, where a point
+/// is written as its values with commas between them.
 fn command_of(line: &str) -> Option<Command> {
     let mut words = line.split_whitespace();
     let verb = words.next()?;
     let place = words.next()?;
     match verb {
-        "insert" => {
-            let key = point_of(place)?;
-            let body = body_of(words.next().unwrap_or(""))?;
-            Some(Command::Insert(Record { key, body }))
-        }
+        "insert" => Some(Command::Insert(record_of(place, words.next())?)),
+        "change" => Some(Command::Change(record_of(place, words.next())?)),
         "delete" => Some(Command::Delete(point_of(place)?)),
         "lookup" => Some(Command::Lookup(point_of(place)?)),
         "search" => Some(Command::Search(area_of(place)?)),
         _ => None,
     }
+}
+
+fn record_of(place: &str, body: Option<&str>) -> Option<Record> {
+    let key = point_of(place)?;
+    let body = body_of(body.unwrap_or(""))?;
+    Some(Record { key, body })
 }
 
 fn body_of(word: &str) -> Option<Body> {
@@ -197,7 +200,7 @@ const TWO: [(&str, &str); 16] = [
 ];
 
 /// Commands over points of three attributes, and the replies.
-const THREE: [(&str, &str); 8] = [
+const THREE: [(&str, &str); 11] = [
     ("insert 1,1,2 b", "done"),
     ("insert 1,1,1 a", "done"),
     ("insert 0,18446744073709551615,0 z", "done"),
@@ -209,6 +212,9 @@ const THREE: [(&str, &str); 8] = [
     ("lookup 1,1,1", "found=a"),
     ("delete 1,1,1", "done"),
     ("lookup 1,1,1", "missing"),
+    ("change 1,1,1 c", "absent"),
+    ("change 1,1,2 d", "done"),
+    ("search 1,1,1..1,1,2", "within 1,1,2=d"),
 ];
 
 /// Commands over points of four attributes, and the replies.
