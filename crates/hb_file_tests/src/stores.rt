@@ -112,7 +112,7 @@ fn has_one(op: &Op) -> bool
     ensures { IsTrue result → OpHas 1 op.now }
 {
     match op {
-        Op::Put { rec, .. } => rec.key.attributes() == 1,
+        Op::Put { rec, .. } | Op::Change { rec, .. } => rec.key.attributes() == 1,
         Op::Del { point, .. } => point.attributes() == 1,
         Op::Post { area, .. } => area.lo().attributes() == 1,
         Op::Extract { .. } | Op::Merge { .. } | Op::Grow { .. } => true,
@@ -201,8 +201,12 @@ fn boxes_match(op: &Op, kept: Option<&LivePage>, going: Option<&LivePage>) -> bo
 {
     match op {
         Op::Merge { gone, .. } => has_box(*gone, kept, going),
-        Op::Put { .. } | Op::Del { .. } | Op::Post { .. } | Op::Extract { .. } | Op::Grow { .. } =>
-            true,
+        Op::Put { .. }
+        | Op::Del { .. }
+        | Op::Change { .. }
+        | Op::Post { .. }
+        | Op::Extract { .. }
+        | Op::Grow { .. } => true,
     }
 }
 

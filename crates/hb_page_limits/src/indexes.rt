@@ -23,7 +23,7 @@ fn has(op: &Op, k: u8) -> bool
     ensures { IsTrue result → OpHas k op.now }
 {
     match op {
-        Op::Put { rec, .. } => rec.key.attributes() == k,
+        Op::Put { rec, .. } | Op::Change { rec, .. } => rec.key.attributes() == k,
         Op::Del { point, .. } => point.attributes() == k,
         Op::Post { area, .. } => area.lo().attributes() == k,
         Op::Extract { .. } | Op::Merge { .. } | Op::Grow { .. } => true,
