@@ -16,7 +16,6 @@ ghost use Rattle.hb_view.specs.Views.{IsLive, IsLiveAnd, HasInside, ShowsLeaf, T
 ghost use Rattle.hb_view.specs.Within.{TakesFound};
 ghost use Rattle.hb_view.specs.WellMade.{SpellWellMade};
 
-use crate::{LeafView, LeafWalk};
 use crate::boxes::leaf_in;
 use crate::broken::{Limits, first_broken};
 use crate::checking::spells;
@@ -29,6 +28,7 @@ use crate::tracing::path_in;
 use crate::trees::Inside;
 use crate::walking::{count_in, find_in, weigh};
 use crate::well_made::is_well_made;
+use crate::{LeafView, LeafWalk};
 use hb_frag::{Page, Path};
 use hb_space::form::BMAX;
 use hb_space::{Area, NoMemory, Point, Record};

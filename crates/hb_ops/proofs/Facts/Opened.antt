@@ -139,10 +139,13 @@ stands_otherwise meta page e there records i is opened stands fits =
 
 -- a point that is among records has a place there
 pub place_from : (records : List Record) (p : List ℕ) → Any (λ (r : Record). r.key ≡ p) records → (i : ℕ) × IsPlaceOf point_of records p i
-place_from records p any = (any.0, record {
-  in_range = any.2;
-  same_key = λ d. ap (λ (r : Record). r.key) (get_or_default records any.0 d any.1 any.2 ∙ any.3) ∙ any.4;
-})
+place_from records p any = (
+  any.0,
+  record {
+    in_range = any.2;
+    same_key = λ d. ap (λ (r : Record). r.key) (get_or_default records any.0 d any.1 any.2 ∙ any.3) ∙ any.4;
+  },
+)
 
 pub edits_add_no_weight : EditsAddNoWeight
 edits_add_no_weight meta page e fits there =

@@ -55,7 +55,7 @@ returns-in_default c =
     let records = c.in-Some.records.now in
     elim c.in_default.branch [
       | in_default-via-in-Ok+else-editing w ↦ stands_otherwise c.args.meta.now c.args.page.now e false records w.in-Ok.place w.if-editing.false c.in-Some.ensures (rw c.as_slice.ensures at w.in-Ok.ensures.found)
-      | in_default-via-in-Err+then-not-editing+else-has_room w ↦ 
+      | in_default-via-in-Err+then-not-editing+else-has_room w ↦
           let absent : e.there ≡ false = w.if-not-editing.true in
           let at : StandsAt false e.point records w.in-Err.gap = rw c.as_slice.ensures at w.in-Err.ensures.absent in
           no_room c.args.meta.now c.args.page.now e records w.in-Err.gap absent c.in-Some.ensures (subst (λ (b : Bool). StandsAt b e.point records w.in-Err.gap) (sym absent) at)
