@@ -73,10 +73,12 @@ delete_absent hs p i rise gap =
 pub change_done : (hs : List (Box Record Global)) (r : Record) (n : Box Record Global) (i : ℕ) → PointsRise hs → IsPlaceOf point_behind hs r.key i → point_behind n ≡ r.key → body_behind n ≡ r.body → Answers (set_behind hs) (Change r) Done (set_behind (set hs i n))
 change_done hs r n i rise at key body =
     let found = (there hs r.key i rise at).1 in
-    let placed : IsPlaceOf point_behind hs (point_behind n) i = subst (λ (p : List ℕ). IsPlaceOf point_behind hs p i) (sym key) at in
-    (sym (ap (λ o. if_there o Done Absent) found), map_set nat_list_cmp_total point_behind body_behind hs n i rise placed
-        ∙ (λ j. map.insert (set_behind hs) (key j) (body j))
-        ∙ sym (ap (λ o. if_there o (map.insert (set_behind hs) r.key r.body) (set_behind hs)) found))
+    let placed : IsPlaceOf point_behind hs (point_behind n) i = subst (λ (p : List ℕ). IsPlaceOf point_behind hs p i) (sym key) at in (
+      sym (ap (λ o. if_there o Done Absent) found),
+      map_set nat_list_cmp_total point_behind body_behind hs n i rise placed
+          ∙ (λ j. map.insert (set_behind hs) (key j) (body j))
+          ∙ sym (ap (λ o. if_there o (map.insert (set_behind hs) r.key r.body) (set_behind hs)) found),
+    )
 
 pub change_absent : (hs : List (Box Record Global)) (r : Record) (i : ℕ) → PointsRise hs → IsGapFor point_cmp point_behind hs r.key i → Answers (set_behind hs) (Change r) Absent (set_behind hs)
 change_absent hs r i rise gap =
